@@ -1,0 +1,4 @@
+pub mod InARow
+pub mod Lowest
+pub mod Numbers
+pub mod Tests

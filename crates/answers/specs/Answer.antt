@@ -1,0 +1,49 @@
+-- An answer as the paper gives it: accepted with its values, or refused with a number and a place. The promises of
+-- reader, session and checker are stated by these, and not by the cases of the enums.
+use Prim.Native.Nat.{ℕ}
+use Rattle.answers.specs.declared.Place.{Place}
+use Rattle.answers.specs.declared.Rule.{Rule}
+use Rattle.answers.specs.declared.Rule.the-variants.{NodeLength, NodeFixedBytes, NodeCounts, NodeDistance, RecordShape, RecordOperands, RecordTypes, PropertyType, CertificateLength, CertificateFixedBytes, CertificateCounts, CertificateDistance, ConstraintShape, LineShape, EquationLine, PropertyLine, JoinLine, ArithmeticLine, NoEmptyLine, NoNode, InputCount, SliceLength, BoolInput, OutsideRange}
+use Rattle.answers.specs.declared.NodeVerdict.{NodeVerdict}
+use Rattle.answers.specs.declared.NodeVerdict.the-variants.{Accepted, Refused}
+
+-- "An answer is accepted .., or refused with a number and a place": A is what an accepted one carries
+pub data Answer (A : Type 0) : Type 0 where
+  accepted : A → Answer A
+  refused : (number : ℕ) → Place → Answer A
+
+-- the number in the table "Where each refusal is met"
+abbrev pub numberOf : Rule → ℕ
+numberOf NodeLength = 1
+numberOf NodeFixedBytes = 2
+numberOf NodeCounts = 3
+numberOf NodeDistance = 4
+numberOf RecordShape = 5
+numberOf RecordOperands = 6
+numberOf RecordTypes = 7
+numberOf PropertyType = 8
+numberOf CertificateLength = 11
+numberOf CertificateFixedBytes = 12
+numberOf CertificateCounts = 13
+numberOf CertificateDistance = 14
+numberOf ConstraintShape = 15
+numberOf LineShape = 16
+numberOf EquationLine = 17
+numberOf PropertyLine = 18
+numberOf JoinLine = 19
+numberOf ArithmeticLine = 20
+numberOf NoEmptyLine = 21
+numberOf NoNode = 30
+numberOf InputCount = 31
+numberOf SliceLength = 32
+numberOf BoolInput = 33
+numberOf OutsideRange = 34
+
+-- what an accepted node file's answer carries
+pub record NodeValues : Type 0 where
+  pub streams : ℕ
+  pub property : ℕ
+
+abbrev pub nodeAnswer : NodeVerdict → Answer NodeValues
+nodeAnswer (Accepted n p) = accepted (record { streams = n; property = p })
+nodeAnswer (Refused rule place) = refused (numberOf rule) place

@@ -1,0 +1,35 @@
+-- "Checks run down the table, each over all its records first .. The first failure is given": how an answer is put
+-- together from tests in a row.
+use mathlib.Core.Path.{_≡_}
+use Prim.Native.Nat.{ℕ, zero, suc, _<_}
+use mathlib.Core.Bool.{Bool, true, false}
+use Rattle.answers.specs.declared.Place.{Place}
+use Rattle.answers.specs.declared.Found.{Found}
+use Rattle.answers.specs.declared.Found.the-variants.{At, Nothing}
+use Rattle.answers.specs.Answer.{Answer, refused}
+
+-- one test: where it fails the answer is this refusal, else what the checks after it give
+abbrev pub check : {A : Type 0} → Bool → (number : ℕ) → Place → Answer A → Answer A
+check true number place rest = rest
+check false number place rest = refused number place
+
+-- the lowest of the first n at which the test fails
+abbrev pub orAt : Found → Bool → ℕ → Found
+orAt (At k) ok i = At k
+orAt Nothing true i = Nothing
+orAt Nothing false i = At i
+
+unfoldable pub lowest : (ℕ → Bool) → (n : ℕ) → Found
+lowest ok zero = Nothing
+lowest ok (suc n) = orAt (lowest ok n) (ok n) n
+
+-- i is the lowest of the first n at which the test fails
+pub record Lowest (ok : ℕ → Bool) (n i : ℕ) : Type 0 where
+  pub below : i < n
+  pub fails : ok i ≡ false
+  pub before : (k : ℕ) → k < i → ok k ≡ true
+
+-- one test over all records: refused at the lowest at fault
+abbrev pub checkAll : {A : Type 0} → Found → (number : ℕ) → (ℕ → Place) → Answer A → Answer A
+checkAll (At i) number place rest = refused number (place i)
+checkAll Nothing number place rest = rest

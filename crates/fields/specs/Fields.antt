@@ -1,0 +1,35 @@
+-- "file fields are little-endian, and two's complement where signed": each field as a number, over the file's byte list.
+use Prim.Native.Nat.{ℕ, zero, suc, _+_, _*_, _^_}
+use mathlib.Core.List.{List}
+use mathlib.Core.Bool.{Bool, true, cond, _&&_}
+use lib.Dec.{ltb, eqb}
+use lib.IntN.{ℤ, pos, _-ℤ_}
+use lib.ListN.{getD}
+
+-- the byte at an offset; 0 past the end, where no caller reads
+abbrev pub byteAt : List ℕ → ℕ → ℕ
+byteAt s at = getD s at 0
+
+abbrev pub u16At : List ℕ → ℕ → ℕ
+u16At s at = byteAt s at + byteAt s (at + 1) * 2 ^ 8
+
+abbrev pub u32At : List ℕ → ℕ → ℕ
+u32At s at = u16At s at + u16At s (at + 2) * 2 ^ 16
+
+abbrev pub u64At : List ℕ → ℕ → ℕ
+u64At s at = u32At s at + u32At s (at + 4) * 2 ^ 32
+
+-- two's complement: a word from half its range on stands for the word less the whole range
+unfoldable pub twosComplement : (half : ℕ) → ℕ → ℤ
+twosComplement half word = cond (ltb word half) (pos word) (pos word -ℤ pos (half + half))
+
+abbrev pub i32At : List ℕ → ℕ → ℤ
+i32At s at = twosComplement (2 ^ 31) (u32At s at)
+
+abbrev pub i64At : List ℕ → ℕ → ℤ
+i64At s at = twosComplement (2 ^ 63) (u64At s at)
+
+-- the count bytes from an offset on are zero
+unfoldable pub zerosAt : List ℕ → (at count : ℕ) → Bool
+zerosAt s at zero = true
+zerosAt s at (suc i) = zerosAt s at i && eqb (byteAt s (at + i)) 0

@@ -1,0 +1,50 @@
+-- `node::passes` meets its contract: in each arm the test is that rule's, of the record that was read.
+-- Assumes nothing.
+use borrow.Author.Needs.{needs}
+use Rattle.node.proofs.reading.passes.Statement.{statement}
+use Rattle.node.proofs.reading.passes.Tie as tie
+
+record-of-requires : tie.Need-record-of-requires
+record-of-requires c κs = search needs
+
+enum-told : tie.Need-enum-told
+enum-told c = search needs
+
+shape-ok-requires : tie.Need-shape-ok-requires
+shape-ok-requires c κs = search needs
+
+enum-told-2 : tie.Need-enum-told-2
+enum-told-2 c = search needs
+
+operands-ok-requires : tie.Need-operands-ok-requires
+operands-ok-requires c κs = search needs
+
+enum-told-3 : tie.Need-enum-told-3
+enum-told-3 c = search needs
+
+types-ok-requires : tie.Need-types-ok-requires
+types-ok-requires c κs = search needs
+
+returns : tie.Need-returns
+returns c = rw (c .before .enum-told .given .1, ← (c .before .before .before .record-of .ensures)) (c .shape-ok .ensures)
+
+returns-2 : tie.Need-returns-2
+returns-2 c = rw (c .before .enum-told2 .given .1, ← (c .before .before .before .record-of .ensures)) (c .operands-ok .ensures)
+
+returns-3 : tie.Need-returns-3
+returns-3 c = rw (c .before .enum-told3 .given .1, ← (c .before .before .before .record-of .ensures)) (c .types-ok .ensures)
+
+pub passes-spec : {M : Type 1} → statement M
+passes-spec =
+    tie.close
+    (tie.spec
+    record-of-requires
+    enum-told
+    shape-ok-requires
+    enum-told-2
+    operands-ok-requires
+    enum-told-3
+    types-ok-requires
+    returns
+    returns-2
+    returns-3)

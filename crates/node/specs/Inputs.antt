@@ -1,0 +1,31 @@
+-- The inputs of a node: "one signed 64-bit number an input, in record order".
+use Prim.Native.Nat.{ℕ, zero, suc, _+_}
+use mathlib.Core.List.{List}
+use mathlib.Core.Bool.{Bool, true, false, not, cond, _&&_}
+use lib.Dec.{eqb}
+use Rattle.answers.specs.declared.Found.{Found}
+use Rattle.answers.specs.Checks.{lowest}
+use Rattle.node.specs.Layout.{recordOf, recordsOf}
+
+-- record i is an input: its operator is 0
+abbrev pub isInput : List ℕ → ℕ → Bool
+isInput s i = eqb (recordOf s i .op) 0
+
+-- how many of the first i records are inputs
+abbrev pub withRecord : List ℕ → (i inputs : ℕ) → ℕ
+withRecord s i inputs = cond (isInput s i) (suc inputs) inputs
+
+unfoldable pub inputsBelow : List ℕ → (i : ℕ) → ℕ
+inputsBelow s zero = 0
+inputsBelow s (suc i) = withRecord s i (inputsBelow s i)
+
+-- how many inputs there are
+abbrev pub inputCount : List ℕ → ℕ
+inputCount s = inputsBelow s (recordsOf s)
+
+-- the record that is the input number j, counted from 0: an input that j inputs stand below
+unfoldable pub isInputNumber : List ℕ → (j i : ℕ) → Bool
+isInputNumber s j i = isInput s i && eqb (inputsBelow s i) j
+
+abbrev pub inputRecord : List ℕ → (j : ℕ) → Found
+inputRecord s j = lowest (λ i. not (isInputNumber s j i)) (recordsOf s)

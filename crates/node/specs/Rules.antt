@@ -1,0 +1,90 @@
+-- The conditions 1 to 8 of "Where each refusal is met", each as the test that a file passes.
+use Prim.Native.Nat.{ℕ}
+use mathlib.Core.Bool.{Bool, true, false, cond, not, _&&_, _||_}
+use lib.Dec.{leb, ltb, eqb}
+use lib.IntN.{ℤ, pos, negℤ}
+use lib.Signed.{leZ}
+use Rattle.node.specs.declared.layout.Trailer.{Trailer}
+use Rattle.node.specs.declared.layout.Record.{Record}
+use Rattle.node.specs.declared.table.Wanted.{Wanted}
+use Rattle.node.specs.declared.table.Wanted.the-variants.{Unused, ABool, AnInt, Own}
+use Rattle.node.specs.declared.table.Limit.{Limit}
+use Rattle.node.specs.declared.table.Limit.the-variants.{Zero, Value, Factor}
+use Rattle.node.specs.declared.table.Row.{Row}
+use Rattle.node.specs.Layout.{sizeOf}
+use Rattle.node.specs.Table.{rowOf, readsIt}
+
+-- 1: length. "From 16 to 65,535 bytes."
+unfoldable pub lengthOk : (size : ℕ) → Bool
+lengthOk size = leb 16 size && leb size 65535
+
+-- 2: trailer's fixed bytes. "0x4C, 0x4E, version 1, 0; ..; four zero bytes"
+unfoldable pub fixedOk : Trailer → Bool
+fixedOk t = eqb (t .first) 0x4C && eqb (t .second) 0x4E && eqb (t .version) 1 && eqb (t .zero) 0 && eqb (t .rest) 0
+
+-- 3: n, or property not below n. "u16 stream count n (1 to 64)"
+unfoldable pub countsOk : Trailer → Bool
+countsOk t = leb 1 (t .streams) && leb (t .streams) 64 && ltb (t .property) (t .streams)
+
+-- 4: distance wrong or past the start. "u32 distance from the file's end back to record 0, which is 16 + 16·n"
+unfoldable pub distanceOk : Trailer → (size : ℕ) → Bool
+distanceOk t size = eqb (t .distance) (sizeOf (t .streams)) && leb (t .distance) size
+
+abbrev pub within : (low k high : ℤ) → Bool
+within low k high = leZ low k && leZ k high
+
+-- "|K| is at most 1,000,000,000"
+abbrev pub constantLimit : ℤ
+constantLimit = pos 1000000000
+
+-- "K against its rule"
+abbrev pub constantOk : Limit → (kind : ℕ) → (k : ℤ) → Bool
+constantOk Zero kind k = within (pos 0) k (pos 0)
+constantOk Value kind k = cond (eqb kind 0) (within (pos 0) k (pos 1)) (within (negℤ constantLimit) k constantLimit)
+constantOk Factor kind k = within (negℤ constantLimit) k constantLimit
+
+-- "Unused fields are zero": an operand that the row does not read, and the last four bytes
+unfoldable pub unusedOk : Row → Record → Bool
+unusedOk row r =
+    (readsIt (row .a) || eqb (r .a) 0)
+    && (readsIt (row .b) || eqb (r .b) 0)
+    && (readsIt (row .c) || eqb (r .c) 0)
+    && eqb (r .rest) 0
+
+-- 5: operator over 13, type byte over 1, K against its rule, unused field not 0
+unfoldable pub shapeOk : Record → Bool
+shapeOk r =
+    leb (r .op) 13
+    && leb (r .kind) 1
+    && constantOk (rowOf (r .op) .k) (r .kind) (r .k)
+    && unusedOk (rowOf (r .op)) r
+
+-- "An operand needed now has a lower number than its record"
+abbrev pub placed : Wanted → (later : Bool) → (n i x : ℕ) → Bool
+placed wanted later n i x = not (readsIt wanted) || ltb x n && (later || ltb x i)
+
+-- 6: operand not below n, or needed now and not lower
+unfoldable pub operandsOk : (n i : ℕ) → Record → Bool
+operandsOk n i r =
+    placed (rowOf (r .op) .a) false n i (r .a)
+    && placed (rowOf (r .op) .b) (rowOf (r .op) .later) n i (r .b)
+    && placed (rowOf (r .op) .c) false n i (r .c)
+
+-- a type byte is the one that is wanted, where `own` is the record's: 0 bool, 1 int
+abbrev pub hasType : Wanted → (own kind : ℕ) → Bool
+hasType Unused own kind = true
+hasType ABool own kind = eqb kind 0
+hasType AnInt own kind = eqb kind 1
+hasType Own own kind = eqb kind own
+
+-- 7: type byte or operand type not the operator's; `types` gives each record's type byte
+unfoldable pub typesOk : (types : ℕ → ℕ) → Record → Bool
+typesOk types r =
+    hasType (rowOf (r .op) .own) (r .kind) (r .kind)
+    && hasType (rowOf (r .op) .a) (r .kind) (types (r .a))
+    && hasType (rowOf (r .op) .b) (r .kind) (types (r .b))
+    && hasType (rowOf (r .op) .c) (r .kind) (types (r .c))
+
+-- 8: property not bool, by its type byte
+unfoldable pub propertyOk : (kind : ℕ) → Bool
+propertyOk kind = eqb kind 0

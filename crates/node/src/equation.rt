@@ -1,0 +1,78 @@
+// The decoded record: its type, and its equation with stream numbers and constant.
+use crate::layout::Record;
+use crate::layout::record_of;
+use crate::layout::type_of;
+ghost use mathlib.Core.Path.{_≡_};
+ghost use Rattle.node.specs.Equations.{kindAt, decoded, equationAt};
+
+// The type of a stream.
+pub enum Kind {
+    Bool,
+    Int,
+}
+
+// One case an operator, 0 to 13 in order: "A record is one of fourteen operators, each with its own operands".
+pub enum Equation {
+    Input,
+    Constant(i32),
+    Not(usize),
+    And(usize, usize),
+    Or(usize, usize),
+    Same(usize, usize),
+    Sum(usize, usize),
+    Difference(usize, usize),
+    Multiple(i32, usize),
+    AtMost(usize, usize),
+    Equal(usize, usize),
+    // If the third then the first, else the second.
+    If(usize, usize, usize),
+    // a -> b
+    Arrow(usize, usize),
+    // a -> pre b
+    FollowedBy(usize, usize),
+}
+
+// The equation of a record; past the table, an input.
+pub fn decode(r: Record) -> Equation
+    ensures { λ z. ⌜ z ≡ decoded r ⌝ }
+{
+    let op = r.op;
+    let a = r.a as usize;
+    let b = r.b as usize;
+    let c = r.c as usize;
+    match op {
+        0 => Equation::Input,
+        1 => Equation::Constant(r.k),
+        2 => Equation::Not(a),
+        3 => Equation::And(a, b),
+        4 => Equation::Or(a, b),
+        5 => Equation::Same(a, b),
+        6 => Equation::Sum(a, b),
+        7 => Equation::Difference(a, b),
+        8 => Equation::Multiple(r.k, a),
+        9 => Equation::AtMost(a, b),
+        10 => Equation::Equal(a, b),
+        11 => Equation::If(a, b, c),
+        12 => Equation::Arrow(a, b),
+        13 => Equation::FollowedBy(a, b),
+        _ => Equation::Input,
+    }
+}
+
+// The equation of stream i.
+pub fn equation_of(file: &[u8], i: usize) -> Equation
+    ensures { λ r. ⌜ r ≡ equationAt (now (file .entry)) i ⌝ }
+{
+    decode(record_of(file, i))
+}
+
+// The type of stream i.
+pub fn kind_of(file: &[u8], i: usize) -> Kind
+    ensures { λ r. ⌜ r ≡ kindAt (now (file .entry)) i ⌝ }
+{
+    if type_of(file, i) == 0 {
+        Kind::Bool
+    } else {
+        Kind::Int
+    }
+}

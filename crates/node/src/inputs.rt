@@ -1,0 +1,58 @@
+// The inputs of a node, in record order.
+use crate::layout::record_of;
+use crate::layout::records_of;
+use answers::Found;
+ghost use Prim.Native.Nat.{_<_, _^_};
+ghost use mathlib.Core.Path.{_≡_};
+ghost use Rattle.node.specs.Inputs.{isInput, withRecord, inputCount, inputRecord};
+
+// Record i is an input.
+fn is_input(file: &[u8], i: usize) -> bool
+    ensures { λ r. ⌜ r ≡ isInput (now (file .entry)) i ⌝ }
+{
+    let record = record_of(file, i);
+    record.op == 0
+}
+
+// The inputs counted so far, with record i.
+fn with_record(file: &[u8], i: usize, inputs: usize) -> usize
+    requires { ⌜ inputs < 2 ^ 63 ⌝ }
+    ensures { λ r. ⌜ r ≡ withRecord (now (file .entry)) i inputs ⌝ }
+{
+    if is_input(file, i) {
+        inputs + 1
+    } else {
+        inputs
+    }
+}
+
+// How many inputs the node has.
+pub fn input_count(file: &[u8]) -> usize
+    ensures { λ r. ⌜ r ≡ inputCount (now (file .entry)) ⌝ }
+{
+    let n = records_of(file);
+    let mut inputs = 0;
+    let mut i = 0;
+    while i < n {
+        inputs = with_record(file, i, inputs);
+        i += 1;
+    }
+    inputs
+}
+
+// Which record is the input number j, counted from 0.
+pub fn input_record(file: &[u8], j: usize) -> Found
+    ensures { λ r. ⌜ r ≡ inputRecord (now (file .entry)) j ⌝ }
+{
+    let n = records_of(file);
+    let mut inputs = 0;
+    let mut i = 0;
+    while i < n {
+        if is_input(file, i) & (inputs == j) {
+            return Found::At(i);
+        }
+        inputs = with_record(file, i, inputs);
+        i += 1;
+    }
+    Found::Nothing
+}

@@ -1,0 +1,96 @@
+// The verdict on a node file: rules 1 to 8 in order, each over all its records first.
+use crate::layout::record_of;
+use crate::layout::trailer_of;
+use crate::layout::type_of;
+use crate::rules::counts_ok;
+use crate::rules::distance_ok;
+use crate::rules::fixed_ok;
+use crate::rules::length_ok;
+use crate::rules::operands_ok;
+use crate::rules::property_ok;
+use crate::rules::shape_ok;
+use crate::rules::types_ok;
+use answers::Found;
+use answers::NodeVerdict;
+use answers::Place;
+use answers::Rule;
+ghost use mathlib.Core.Path.{_≡_};
+ghost use Rattle.answers.specs.Answer.{nodeAnswer};
+ghost use Rattle.answers.specs.Checks.{lowest};
+ghost use Rattle.node.specs.Verdict.{passesOf, recordsVerdict, verdictOf};
+
+// The rules that each record is held to.
+pub enum RecordRule {
+    Shape,
+    Operands,
+    Types,
+}
+
+// Record i of a file of n streams keeps the rule.
+fn passes(file: &[u8], n: usize, rule: RecordRule, i: usize) -> bool
+    ensures { λ r. ⌜ r ≡ passesOf (now (file .entry)) n rule i ⌝ }
+{
+    let record = record_of(file, i);
+    match rule {
+        RecordRule::Shape => shape_ok(record),
+        RecordRule::Operands => operands_ok(n, i, record),
+        RecordRule::Types => types_ok(file, record),
+    }
+}
+
+// The lowest record that breaks the rule.
+fn first_bad(file: &[u8], n: usize, rule: RecordRule) -> Found
+    ensures { λ r. ⌜ r ≡ lowest (passesOf (now (file .entry)) n rule) n ⌝ }
+{
+    let mut i = 0;
+    while i < n {
+        if !passes(file, n, rule, i) {
+            return Found::At(i);
+        }
+        i += 1;
+    }
+    Found::Nothing
+}
+
+// Rules 5 to 8, of a file whose trailer gives n and the property.
+fn records_verdict(file: &[u8], n: usize, property: usize) -> NodeVerdict
+    ensures { λ r. ⌜ nodeAnswer r ≡ recordsVerdict (now (file .entry)) n property ⌝ }
+{
+    if let Found::At(i) = first_bad(file, n, RecordRule::Shape) {
+        return NodeVerdict::Refused(Rule::RecordShape, Place::Record(i));
+    }
+    if let Found::At(i) = first_bad(file, n, RecordRule::Operands) {
+        return NodeVerdict::Refused(Rule::RecordOperands, Place::Record(i));
+    }
+    if let Found::At(i) = first_bad(file, n, RecordRule::Types) {
+        return NodeVerdict::Refused(Rule::RecordTypes, Place::Record(i));
+    }
+    if !property_ok(type_of(file, property)) {
+        return NodeVerdict::Refused(Rule::PropertyType, Place::Record(property));
+    }
+    NodeVerdict::Accepted {
+        streams: n,
+        property,
+    }
+}
+
+// The verdict on a node file.
+pub fn verdict(file: &[u8]) -> NodeVerdict
+    ensures { λ r. ⌜ nodeAnswer r ≡ verdictOf (now (file .entry)) ⌝ }
+{
+    let size = file.len();
+    if !length_ok(size) {
+        return NodeVerdict::Refused(Rule::NodeLength, Place::File);
+    }
+    let trailer = trailer_of(file);
+    if !fixed_ok(trailer) {
+        return NodeVerdict::Refused(Rule::NodeFixedBytes, Place::File);
+    }
+    if !counts_ok(trailer) {
+        return NodeVerdict::Refused(Rule::NodeCounts, Place::File);
+    }
+    if !distance_ok(trailer, size) {
+        return NodeVerdict::Refused(Rule::NodeDistance, Place::File);
+    }
+    records_verdict(file, trailer.streams as usize, trailer.property as usize)
+}

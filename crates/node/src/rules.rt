@@ -1,0 +1,138 @@
+// The rules of a node file, each as one test of the trailer or of a record.
+use crate::layout::Record;
+use crate::layout::Trailer;
+use crate::layout::type_of;
+use crate::table::Limit;
+use crate::table::Row;
+use crate::table::Wanted;
+use crate::table::reads;
+use crate::table::row_of;
+ghost use mathlib.Core.Path.{_≡_};
+ghost use Rattle.node.specs.Layout.{typeOf};
+ghost use Rattle.node.specs.Rules.{lengthOk, fixedOk, countsOk, distanceOk, within, constantOk, unusedOk, shapeOk, placed, operandsOk, hasType, typesOk, propertyOk};
+
+// Rule 1.
+pub fn length_ok(size: usize) -> bool
+    ensures { λ r. ⌜ r ≡ lengthOk size ⌝ }
+{
+    (16 <= size) & (size <= 65535)
+}
+
+// Rule 2.
+pub fn fixed_ok(t: Trailer) -> bool
+    ensures { λ r. ⌜ r ≡ fixedOk t ⌝ }
+{
+    (t.first == 0x4C) & (t.second == 0x4E) & (t.version == 1) & (t.zero == 0) & (t.rest == 0)
+}
+
+// Rule 3.
+pub fn counts_ok(t: Trailer) -> bool
+    ensures { λ r. ⌜ r ≡ countsOk t ⌝ }
+{
+    (1 <= t.streams) & (t.streams <= 64) & (t.property < t.streams)
+}
+
+// Rule 4.
+pub fn distance_ok(t: Trailer, size: usize) -> bool
+    ensures { λ r. ⌜ r ≡ distanceOk t size ⌝ }
+{
+    let distance = t.distance as usize;
+    let streams = t.streams as usize;
+    (distance == 16 + 16 * streams) & (distance <= size)
+}
+
+fn between(low: i32, k: i32, high: i32) -> bool
+    ensures { λ r. ⌜ r ≡ within low k high ⌝ }
+{
+    (low <= k) & (k <= high)
+}
+
+// K against its rule.
+fn constant_ok(limit: Limit, kind: u8, k: i32) -> bool
+    ensures { λ r. ⌜ r ≡ constantOk limit kind k ⌝ }
+{
+    match limit {
+        Limit::Zero => between(0, k, 0),
+        Limit::Value => {
+            if kind == 0 {
+                between(0, k, 1)
+            } else {
+                between(-1000000000, k, 1000000000)
+            }
+        }
+        Limit::Factor => between(-1000000000, k, 1000000000),
+    }
+}
+
+// What the operator does not use is zero.
+fn unused_ok(row: Row, r: Record) -> bool
+    ensures { λ z. ⌜ z ≡ unusedOk row r ⌝ }
+{
+    let a = row.a;
+    let b = row.b;
+    let c = row.c;
+    (reads(a) | (r.a == 0)) & (reads(b) | (r.b == 0)) & (reads(c) | (r.c == 0)) & (r.rest == 0)
+}
+
+// Rule 5.
+pub fn shape_ok(r: Record) -> bool
+    ensures { λ z. ⌜ z ≡ shapeOk r ⌝ }
+{
+    let row = row_of(r.op);
+    let limit = row.k;
+    (r.op <= 13) & (r.kind <= 1) & constant_ok(limit, r.kind, r.k) & unused_ok(row, r)
+}
+
+// An operand that is read is below n and, where it is needed now, lower than its record.
+fn is_placed(wanted: Wanted, later: bool, n: usize, i: usize, x: usize) -> bool
+    ensures { λ r. ⌜ r ≡ placed wanted later n i x ⌝ }
+{
+    !reads(wanted) | ((x < n) & (later | (x < i)))
+}
+
+// Rule 6.
+pub fn operands_ok(n: usize, i: usize, r: Record) -> bool
+    ensures { λ z. ⌜ z ≡ operandsOk n i r ⌝ }
+{
+    let row = row_of(r.op);
+    let a = row.a;
+    let b = row.b;
+    let c = row.c;
+    is_placed(a, false, n, i, r.a as usize)
+        & is_placed(b, row.later, n, i, r.b as usize)
+        & is_placed(c, false, n, i, r.c as usize)
+}
+
+// A type byte is the one that is wanted, where own is the record's.
+fn has_type(wanted: Wanted, own: u8, kind: u8) -> bool
+    ensures { λ r. ⌜ r ≡ hasType wanted own kind ⌝ }
+{
+    match wanted {
+        Wanted::Unused => true,
+        Wanted::ABool => kind == 0,
+        Wanted::AnInt => kind == 1,
+        Wanted::Own => kind == own,
+    }
+}
+
+// Rule 7.
+pub fn types_ok(file: &[u8], r: Record) -> bool
+    ensures { λ z. ⌜ z ≡ typesOk (typeOf (now (file .entry))) r ⌝ }
+{
+    let row = row_of(r.op);
+    let own = row.own;
+    let a = row.a;
+    let b = row.b;
+    let c = row.c;
+    has_type(own, r.kind, r.kind)
+        & has_type(a, r.kind, type_of(file, r.a as usize))
+        & has_type(b, r.kind, type_of(file, r.b as usize))
+        & has_type(c, r.kind, type_of(file, r.c as usize))
+}
+
+// Rule 8.
+pub fn property_ok(kind: u8) -> bool
+    ensures { λ r. ⌜ r ≡ propertyOk kind ⌝ }
+{
+    kind == 0
+}
