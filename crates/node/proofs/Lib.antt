@@ -4,3 +4,6 @@ pub mod InputCounts
 pub mod Notes
 pub mod Outcomes
 pub mod Records
+pub mod TableRule
+pub mod WellFormedness
+pub mod WithoutNote

@@ -3,6 +3,7 @@ pub mod Inputs
 pub mod Layout
 pub mod Note
 pub mod Outcome
+pub mod Reads
 pub mod Rules
 pub mod Table
 pub mod Verdict

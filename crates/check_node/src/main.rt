@@ -1,0 +1,74 @@
+// Says the verdict on each node file that an argument names, or on node.bin in the current folder where there is none.
+// An unopenable file is empty; of a longer one the first 65,536 bytes are read, which is enough to refuse its length.
+use answers::NodeVerdict;
+use answers::Place;
+use libc::STDOUT_FILENO;
+
+fn say(text: &[u8]) {
+    io::write_all(STDOUT_FILENO, text);
+}
+
+fn say_number(before: &[u8], n: usize) {
+    say(before);
+    io::print_decimal(STDOUT_FILENO, n as u64);
+}
+
+fn say_place(place: Place) {
+    match place {
+        Place::File => say(b" file"),
+        Place::Record(i) => say_number(b" record ", i),
+        Place::Constraint(i) => say_number(b" constraint ", i),
+        Place::Line(i) => say_number(b" line ", i),
+        Place::Base => say(b" base"),
+        Place::Step => say(b" step"),
+    }
+}
+
+// One line: the verdict, and of an accepted file also its inputs and how long its note is.
+fn say_verdict(file: &[u8]) {
+    match node::verdict(file) {
+        NodeVerdict::Accepted { streams, property } => {
+            say_number(b"accepted streams ", streams);
+            say_number(b" property ", property);
+            say_number(b" inputs ", node::input_count(file));
+            say_number(b" note ", node::note(file).len());
+        }
+        NodeVerdict::Refused(rule, place) => {
+            say_number(b"refused ", answers::number(rule));
+            say_place(place);
+        }
+    }
+    say(b"\n");
+}
+
+fn check_file(path: &[u8]) {
+    let mut buffer = io::large_buffer();
+    let fd = os::open_read(path);
+    if fd < 0 {
+        say_verdict(&buffer[..0]);
+        return;
+    }
+    let n = io::read_full(fd, &mut buffer);
+    libc::close(fd);
+    say_verdict(&buffer[..n]);
+}
+
+fn check_argument(i: usize) {
+    let mut path = io::buffer();
+    let length = os::arg(i, &mut path);
+    say(&path[..length]);
+    say(b": ");
+    check_file(&path[..length]);
+}
+
+fn main() {
+    let count = os::arg_count();
+    if count < 2 {
+        check_file(b"node.bin");
+    }
+    let mut i = 1;
+    while i < count {
+        check_argument(i);
+        i += 1;
+    }
+}

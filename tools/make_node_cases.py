@@ -1,0 +1,196 @@
+#!/usr/bin/env python3
+"""Writes the node files that crates/check_node is run on, and what it should say of each.
+
+    python3 tools/make_node_cases.py
+
+Each case gives a file and its verdict line, written down from the published rules and not computed by any reader. The files
+go to crates/check_node/data, their names to args and the lines to stdout beside it. examples/two-bands/node.bin is written too.
+"""
+import pathlib
+import shutil
+import struct
+
+ROOT = pathlib.Path(__file__).resolve().parent.parent
+CRATE = ROOT / "crates" / "check_node"
+BOOL, INT = 0, 1
+CASES = []
+
+
+def rec(op, kind, a=0, b=0, c=0, k=0, rest=0):
+    return struct.pack("<BBHHHiI", op, kind, a, b, c, k, rest)
+
+
+def trailer(n, prop, distance=None, first=0x4C, second=0x4E, version=1, zero=0, rest=0):
+    if distance is None:
+        distance = 16 + 16 * n
+    return struct.pack("<BBBBHHII", first, second, version, zero, n, prop, distance, rest)
+
+
+def node(records, prop, note=b"", **fields):
+    n = fields.pop("n", len(records))
+    return note + b"".join(records) + trailer(n, prop, **fields)
+
+
+def case(name, data, says):
+    assert name not in [c[0] for c in CASES], name
+    CASES.append((name, data, says))
+
+
+def accepted(name, data, streams, prop, inputs, note=0):
+    case(name, data, f"accepted streams {streams} property {prop} inputs {inputs} note {note}")
+
+
+def refused(name, data, number, place):
+    case(name, data, f"refused {number} {place}")
+
+
+def replaced(records, i, record):
+    return records[:i] + [record] + records[i + 1:]
+
+
+INPUT = rec(0, BOOL)
+# 0, 1 inputs; 2 not 0; 3 = 1 and 2; 4 = 0 and 3; 5 not 4, the property
+TWO_BANDS = [INPUT, INPUT, rec(2, BOOL, 0), rec(3, BOOL, 1, 2), rec(3, BOOL, 0, 3), rec(2, BOOL, 4)]
+# every operator, and both types of 0, 1, 11, 12 and 13
+ALL = [
+    rec(0, BOOL),                       # 0
+    rec(0, INT),                        # 1
+    rec(1, BOOL, k=1),                  # 2
+    rec(1, INT, k=-7),                  # 3
+    rec(2, BOOL, 0),                    # 4
+    rec(3, BOOL, 0, 4),                 # 5
+    rec(4, BOOL, 2, 5),                 # 6
+    rec(5, BOOL, 0, 6),                 # 7
+    rec(6, INT, 1, 3),                  # 8
+    rec(7, INT, 8, 1),                  # 9
+    rec(8, INT, 9, k=3),                # 10
+    rec(9, BOOL, 1, 10),                # 11
+    rec(10, BOOL, 8, 9),                # 12
+    rec(11, BOOL, 4, 5, 12),            # 13
+    rec(11, INT, 8, 9, 11),             # 14
+    rec(12, BOOL, 2, 13),               # 15
+    rec(12, INT, 3, 14),                # 16
+    rec(13, BOOL, 2, 17),               # 17, of itself one instant before
+    rec(13, INT, 3, 19),                # 18, of a later record
+    rec(6, INT, 18, 1),                 # 19
+]
+CHAIN = [INPUT] + [rec(2, BOOL, i) for i in range(63)]
+LIMIT = 1_000_000_000
+
+
+def valid():
+    accepted("two-bands.bin", node(TWO_BANDS, 5), 6, 5, 2)
+    accepted("two-bands-with-note.bin", node(TWO_BANDS, 5, b"two bands, one dish"), 6, 5, 2, 19)
+    accepted("all-operators.bin", node(ALL, 17), 20, 17, 2)
+    accepted("all-operators-with-note.bin", node(ALL, 0, b"\0"), 20, 0, 2, 1)
+    accepted("one-stream.bin", node([INPUT], 0), 1, 0, 1)
+    accepted("one-stream-with-note.bin", node([rec(1, BOOL, k=0)], 0, b"x" * 5), 1, 0, 0, 5)
+    accepted("sixty-four-streams.bin", node(CHAIN, 63), 64, 63, 1)
+    accepted("sixty-four-inputs-with-note.bin", node([INPUT] * 64, 0, b"n" * 100), 64, 0, 64, 100)
+    accepted("longest.bin", node(TWO_BANDS, 5, b"\xff" * (65535 - 112)), 6, 5, 2, 65535 - 112)
+    accepted("constants-at-their-limits.bin", node(
+        [rec(1, BOOL, k=0), rec(1, BOOL, k=1), rec(1, INT, k=LIMIT), rec(1, INT, k=-LIMIT), rec(8, INT, 2, k=LIMIT),
+         rec(8, INT, 2, k=-LIMIT), rec(8, INT, 2, k=0)], 1), 7, 1, 0)
+    accepted("pre-of-itself-at-record-1.bin", node([INPUT, rec(13, BOOL, 0, 1)], 1), 2, 1, 1)
+
+
+def of_the_file():
+    refused("1-missing.bin", None, 1, "file")
+    refused("1-empty.bin", b"", 1, "file")
+    refused("1-length-15.bin", trailer(1, 0)[1:], 1, "file")
+    refused("1-length-65536.bin", node(TWO_BANDS, 5, b"\0" * (65536 - 112)), 1, "file")
+    refused("1-length-70000.bin", node(TWO_BANDS, 5, b"\0" * (70000 - 112)), 1, "file")
+    refused("2-first-byte.bin", node(TWO_BANDS, 5, first=0x4D), 2, "file")
+    refused("2-second-byte.bin", node(TWO_BANDS, 5, second=0x4D), 2, "file")
+    refused("2-version-0.bin", node(TWO_BANDS, 5, version=0), 2, "file")
+    refused("2-version-2.bin", node(TWO_BANDS, 5, version=2), 2, "file")
+    refused("2-fourth-byte.bin", node(TWO_BANDS, 5, zero=1), 2, "file")
+    for i in range(4):
+        refused(f"2-zero-byte-{i}.bin", node(TWO_BANDS, 5, rest=1 << (8 * i)), 2, "file")
+    refused("2-length-16-of-zeros.bin", b"\0" * 16, 2, "file")
+    refused("3-no-streams.bin", node([], 0), 3, "file")
+    refused("3-sixty-five-streams.bin", node(CHAIN + [INPUT], 0), 3, "file")
+    refused("3-most-streams.bin", node(TWO_BANDS, 5, n=65535), 3, "file")
+    refused("3-property-is-n.bin", node(TWO_BANDS, 6), 3, "file")
+    refused("3-property-past-64.bin", node(CHAIN, 64), 3, "file")
+    refused("3-property-65535.bin", node(TWO_BANDS, 65535), 3, "file")
+    refused("4-length-16.bin", node([], 0, n=1), 4, "file")
+    refused("4-distance-one-less.bin", node(TWO_BANDS, 5, distance=111), 4, "file")
+    refused("4-distance-one-more.bin", node(TWO_BANDS, 5, b"note", distance=113), 4, "file")
+    refused("4-distance-0.bin", node(TWO_BANDS, 5, distance=0), 4, "file")
+    refused("4-distance-high-byte.bin", node(TWO_BANDS, 5, distance=112 + (1 << 24)), 4, "file")
+    refused("4-past-the-start.bin", node(TWO_BANDS, 5)[1:], 4, "file")
+    refused("4-one-record-too-many.bin", node(TWO_BANDS, 5, n=7), 4, "file")
+
+
+def of_records():
+    for name, i in (("first", 0), ("middle", 3), ("last", 5)):
+        refused(f"5-operator-14-{name}.bin", node(replaced(TWO_BANDS, i, rec(14, BOOL)), 5), 5, f"record {i}")
+        refused(f"5-type-2-{name}.bin", node(replaced(TWO_BANDS, i, rec(0, 2)), 5), 5, f"record {i}")
+    for name, k, kind, op in (("value-past-limit", LIMIT + 1, INT, 1), ("value-past-negative-limit", -LIMIT - 1, INT, 1),
+                              ("factor-past-limit", LIMIT + 1, INT, 8), ("factor-past-negative-limit", -LIMIT - 1, INT, 8),
+                              ("bool-2", 2, BOOL, 1), ("bool-minus-1", -1, BOOL, 1),
+                              ("least-32-bit", -(1 << 31), INT, 1)):
+        refused(f"5-constant-{name}.bin", node([INPUT, rec(1, INT), rec(op, kind, op // 8, k=k)], 0), 5, "record 2")
+    refused("5-unused-constant.bin", node(replaced(TWO_BANDS, 5, rec(2, BOOL, 4, k=1)), 5), 5, "record 5")
+    refused("5-input-with-constant.bin", node(replaced(TWO_BANDS, 0, rec(0, BOOL, k=-1)), 5), 5, "record 0")
+    refused("5-input-with-operand.bin", node(replaced(TWO_BANDS, 1, rec(0, BOOL, 1)), 5), 5, "record 1")
+    refused("5-constant-with-operand-b.bin", node([INPUT, rec(1, BOOL, b=1)], 0), 5, "record 1")
+    refused("5-not-with-operand-b.bin", node(replaced(TWO_BANDS, 2, rec(2, BOOL, 0, 1)), 5), 5, "record 2")
+    refused("5-and-with-operand-c.bin", node(replaced(TWO_BANDS, 4, rec(3, BOOL, 0, 3, 1)), 5), 5, "record 4")
+    refused("5-arrow-with-operand-c.bin", node(replaced(TWO_BANDS, 4, rec(12, BOOL, 0, 3, 256)), 5), 5, "record 4")
+    for i in range(4):
+        refused(f"5-zero-byte-{i}.bin", node(replaced(TWO_BANDS, i, rec(0, BOOL, rest=1 << (8 * i))), 5), 5, f"record {i}")
+    refused("5-lowest-of-two.bin", node(replaced(replaced(TWO_BANDS, 4, rec(14, 0)), 2, rec(255, 0)), 5), 5, "record 2")
+    refused("5-before-6-and-7.bin", node([INPUT, rec(2, INT, 9), rec(14, BOOL)], 0), 5, "record 2")
+    refused("5-last-of-64.bin", node(replaced(CHAIN, 63, rec(14, BOOL)), 0), 5, "record 63")
+
+    refused("6-first-reads-itself.bin", node([rec(2, BOOL, 0)], 0), 6, "record 0")
+    refused("6-middle-reads-itself.bin", node(replaced(TWO_BANDS, 3, rec(3, BOOL, 1, 3)), 5), 6, "record 3")
+    refused("6-last-reads-itself.bin", node(replaced(CHAIN, 63, rec(2, BOOL, 63)), 0), 6, "record 63")
+    refused("6-operand-is-n.bin", node(replaced(TWO_BANDS, 5, rec(2, BOOL, 6)), 5), 6, "record 5")
+    refused("6-operand-65535.bin", node(replaced(TWO_BANDS, 2, rec(2, BOOL, 65535)), 5), 6, "record 2")
+    refused("6-operand-b-later.bin", node(replaced(TWO_BANDS, 3, rec(3, BOOL, 1, 4)), 5), 6, "record 3")
+    refused("6-condition-later.bin", node([INPUT, rec(11, BOOL, 0, 0, 2), INPUT], 0), 6, "record 1")
+    refused("6-pre-past-n.bin", node([INPUT, rec(13, BOOL, 0, 2)], 0), 6, "record 1")
+    refused("6-first-value-of-pre-itself.bin", node([INPUT, rec(13, BOOL, 1, 0)], 0), 6, "record 1")
+    refused("6-later-value-of-arrow-itself.bin", node([INPUT, rec(12, BOOL, 0, 1)], 0), 6, "record 1")
+    refused("6-before-7.bin", node([INPUT, rec(2, INT, 0), rec(2, BOOL, 2)], 0), 6, "record 2")
+
+    ints = [INPUT, rec(0, INT)]
+    for name, record in (("not-typed-int", rec(2, INT, 0)), ("not-of-int", rec(2, BOOL, 1)), ("and-second-int", rec(3, BOOL, 0, 1)),
+                         ("or-first-int", rec(4, BOOL, 1, 0)), ("same-of-ints", rec(5, BOOL, 1, 1)), ("sum-typed-bool", rec(6, BOOL, 1, 1)),
+                         ("sum-second-bool", rec(6, INT, 1, 0)), ("difference-first-bool", rec(7, INT, 0, 1)),
+                         ("multiple-typed-bool", rec(8, BOOL, 1, k=5)), ("multiple-of-bool", rec(8, INT, 0)),
+                         ("at-most-typed-int", rec(9, INT, 1, 1)), ("at-most-second-bool", rec(9, BOOL, 1, 0)),
+                         ("equal-first-bool", rec(10, BOOL, 0, 1)), ("if-condition-int", rec(11, BOOL, 0, 0, 1)),
+                         ("if-first-other", rec(11, BOOL, 1, 0, 0)), ("if-second-other", rec(11, INT, 1, 0, 0)),
+                         ("arrow-second-other", rec(12, INT, 1, 0)), ("pre-first-other", rec(13, BOOL, 1, 0)),
+                         ("pre-second-other", rec(13, INT, 1, 0))):
+        refused(f"7-{name}.bin", node(ints + [record], 0), 7, "record 2")
+    refused("7-pre-of-itself-other-operand.bin", node([rec(0, INT), rec(13, BOOL, 0, 1), INPUT], 2), 7, "record 1")
+    refused("7-last-of-64.bin", node(replaced(CHAIN, 63, rec(2, INT, 0)), 0), 7, "record 63")
+    refused("7-lowest-of-two.bin", node(ints + [rec(2, INT, 0), rec(6, BOOL, 1, 1)], 0), 7, "record 2")
+
+    refused("8-first.bin", node([rec(0, INT)], 0), 8, "record 0")
+    refused("8-middle.bin", node([INPUT, rec(0, INT), INPUT], 1), 8, "record 1")
+    refused("8-last.bin", node(ALL, 19), 8, "record 19")
+
+
+def main():
+    valid()
+    of_the_file()
+    of_records()
+    data = CRATE / "data"
+    shutil.rmtree(data, ignore_errors=True)
+    data.mkdir(parents=True)
+    for name, content, _ in CASES:
+        if content is not None:
+            (data / name).write_bytes(content)
+    (CRATE / "args").write_text("".join(f"{name}\n" for name, _, _ in CASES))
+    (CRATE / "stdout").write_text("".join(f"{name}: {says}\n" for name, _, says in CASES))
+    (ROOT / "examples" / "two-bands" / "node.bin").write_bytes(node(TWO_BANDS, 5))
+    print(f"{len(CASES)} cases")
+
+
+main()
