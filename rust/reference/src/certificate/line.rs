@@ -1,0 +1,331 @@
+//! The lines: refusals 16 to 20.
+
+use super::constraint::Constraint;
+use super::equation::{self, Item};
+use super::layout::Layout;
+use super::literal::{Atom, Literal};
+use super::{Part, BLOCK, MAX_DEPTH};
+use crate::answer::{Place, Refusal};
+use crate::node::{Node, Type, MAX_STREAMS};
+
+/// 01: "literal count byte (0 to 12)".
+const MAX_LITERALS: usize = 12;
+/// 01: "multipliers (1 to 1,000,000)".
+const MAX_MULTIPLIER: u32 = 1_000_000;
+/// One number for each stream at each offset.
+const VARIABLES: usize = MAX_STREAMS * (MAX_DEPTH as usize + 1);
+
+/// A line's kind. 01: "Kinds: 1. Equation", "2. Property", "3. Join",
+/// "4. Arithmetic".
+#[derive(Clone, Copy, Debug, PartialEq, Eq)]
+enum Kind {
+    Equation,
+    Property,
+    Join,
+    Arithmetic,
+}
+
+impl Kind {
+    fn decode(byte: u8) -> Option<Self> {
+        match byte {
+            1 => Some(Kind::Equation),
+            2 => Some(Kind::Property),
+            3 => Some(Kind::Join),
+            4 => Some(Kind::Arithmetic),
+            _ => None,
+        }
+    }
+
+    /// The number of a line of this kind "not as above".
+    fn refusal(self) -> u8 {
+        match self {
+            Kind::Equation => 17,
+            Kind::Property => 18,
+            Kind::Join => 19,
+            Kind::Arithmetic => 20,
+        }
+    }
+}
+
+/// The literals of a line, a clause.
+#[derive(Clone, Copy, Debug)]
+struct Clause {
+    literals: [Literal; MAX_LITERALS],
+    count: usize,
+}
+
+impl Clause {
+    fn literals(&self) -> &[Literal] {
+        &self.literals[..self.count]
+    }
+
+    fn contains(&self, literal: Literal) -> bool {
+        self.literals().contains(&literal)
+    }
+
+    /// Whether each literal of `self` but `struck` stands in `other`.
+    fn stands_in(&self, other: &Clause, struck: Literal) -> bool {
+        let mut kept = self.literals().iter().filter(|literal| **literal != struck);
+        kept.all(|literal| other.contains(*literal))
+    }
+}
+
+/// 01: "kind byte, literal count byte (0 to 12), u16 p, q, r, twelve u16
+/// literals, twelve u32 multipliers".
+#[derive(Clone, Copy, Debug)]
+struct Line {
+    kind: Kind,
+    p: u16,
+    q: u16,
+    r: u16,
+    clause: Clause,
+    multipliers: [u32; MAX_LITERALS],
+}
+
+impl Line {
+    /// The line, or nothing if its kind, its count, a multiplier or an unused
+    /// field is against refusal 16.
+    fn decode(block: &[u8; BLOCK]) -> Option<Self> {
+        let [kind, count, p0, p1, q0, q1, r0, r1, rest @ ..] = block;
+        let (literals, multipliers) = rest.split_at(2 * MAX_LITERALS);
+        let mut line = Line {
+            kind: Kind::decode(*kind)?,
+            p: u16::from_le_bytes([*p0, *p1]),
+            q: u16::from_le_bytes([*q0, *q1]),
+            r: u16::from_le_bytes([*r0, *r1]),
+            clause: Clause {
+                literals: [Literal::from_number(0); MAX_LITERALS],
+                count: usize::from(*count),
+            },
+            multipliers: [0; MAX_LITERALS],
+        };
+        for (slot, bytes) in line.clause.literals.iter_mut().zip(literals.as_chunks().0) {
+            *slot = Literal::from_number(u16::from_le_bytes(*bytes));
+        }
+        for (slot, bytes) in line.multipliers.iter_mut().zip(multipliers.as_chunks().0) {
+            *slot = u32::from_le_bytes(*bytes);
+        }
+        line.is_well_formed().then_some(line)
+    }
+
+    /// 01: "What its kind and count don't use is zero." Kinds 1 and 3 use p,
+    /// q and r, kind 2 uses q, kind 4 the multipliers of its literals.
+    fn is_well_formed(&self) -> bool {
+        let count = self.clause.count;
+        let (fields_right, used) = match self.kind {
+            Kind::Equation | Kind::Join => (true, 0),
+            Kind::Property => (self.p == 0 && self.r == 0, 0),
+            Kind::Arithmetic => (self.p == 0 && self.q == 0 && self.r == 0, count),
+        };
+        count <= MAX_LITERALS
+            && fields_right
+            && self.clause.literals[count..]
+                .iter()
+                .all(|l| l.number() == 0)
+            && self.multipliers[..used]
+                .iter()
+                .all(|m| (1..=MAX_MULTIPLIER).contains(m))
+            && self.multipliers[used..].iter().all(|m| *m == 0)
+    }
+
+    /// The literals with their multipliers.
+    fn weighted(&self) -> impl Iterator<Item = (Literal, i128)> + '_ {
+        let multipliers = self.multipliers.iter().map(|m| i128::from(*m));
+        self.clause.literals().iter().copied().zip(multipliers)
+    }
+}
+
+/// The checker of lines, with what the lines speak of.
+pub struct Checker<'a> {
+    node: &'a Node<'a>,
+    depth: u8,
+    constraints: &'a [Constraint],
+    /// The lines so far of the part being checked.
+    clauses: Vec<Clause>,
+    /// Kind 4's sum of coefficients at each variable. It is all zero between
+    /// lines: a line that leaves a sum other than 0 is refused, and no line
+    /// follows a refused one.
+    sums: [i128; VARIABLES],
+}
+
+impl<'a> Checker<'a> {
+    /// A checker before the first line.
+    pub fn new(node: &'a Node<'a>, layout: &Layout, constraints: &'a [Constraint]) -> Self {
+        let longest = layout.base.len().max(layout.step.len());
+        Checker {
+            node,
+            depth: layout.depth,
+            constraints,
+            clauses: Vec::with_capacity(longest),
+            sums: [0; VARIABLES],
+        }
+    }
+
+    /// Checks a part's lines, the first of which has the number `first`.
+    /// Tells whether some line has no literals.
+    pub fn check_part(
+        &mut self,
+        part: Part,
+        first: usize,
+        lines: &[[u8; BLOCK]],
+    ) -> Result<bool, Refusal> {
+        self.clauses.clear();
+        let mut ends = false;
+        for (number, block) in (first..).zip(lines) {
+            let refuse = |refusal| Refusal::new(refusal, Place::Line(number));
+            let line = self.read_line(block).ok_or(refuse(16))?;
+            if !self.is_justified(&line, part, first) {
+                return Err(refuse(line.kind.refusal()));
+            }
+            ends |= line.clause.count == 0;
+            self.clauses.push(line.clause);
+        }
+        Ok(ends)
+    }
+
+    /// The line, or nothing if it is against refusal 16: "kind, count, listed
+    /// literal naming no atom, kind 4 multiplier, unused field not 0".
+    fn read_line(&self, block: &[u8; BLOCK]) -> Option<Line> {
+        let line = Line::decode(block)?;
+        let mut literals = line.clause.literals().iter();
+        literals.all(|l| self.names_atom(*l)).then_some(line)
+    }
+
+    /// 01: "64·offset + stream for a bool stream at offsets 0 to k; 576 + i
+    /// for constraint i".
+    fn names_atom(&self, literal: Literal) -> bool {
+        match literal.atom() {
+            Atom::Constraint(i) => i < self.constraints.len(),
+            Atom::Stream { stream, offset } => {
+                offset <= u16::from(self.depth) && self.node.type_of(stream) == Some(Type::Bool)
+            }
+        }
+    }
+
+    /// Whether the line is as its kind says.
+    fn is_justified(&mut self, line: &Line, part: Part, first: usize) -> bool {
+        match line.kind {
+            Kind::Equation => self.is_equation(line, part),
+            Kind::Property => self.is_property(line, part),
+            Kind::Join => self.is_join(line, first),
+            Kind::Arithmetic => self.is_arithmetic(line),
+        }
+    }
+
+    /// Kind 1: "clause r, counted from 0, of stream p at offset q (base:
+    /// below k; step: up to k). Literals equal the list below in its order,
+    /// constraints unnegated and compared by content."
+    fn is_equation(&self, line: &Line, part: Part) -> bool {
+        let offsets = match part {
+            Part::Base => 0..self.depth,
+            Part::Step => 0..self.depth + 1,
+        };
+        let Some(offset) = u8::try_from(line.q).ok().filter(|q| offsets.contains(q)) else {
+            return false;
+        };
+        let Some(listed) = equation::clause(self.node, part, line.p, offset, line.r) else {
+            return false;
+        };
+        let literals = line.clause.literals();
+        let items = listed.items();
+        literals.len() == items.len()
+            && literals
+                .iter()
+                .zip(items)
+                .all(|(literal, item)| self.is_item(*literal, item))
+    }
+
+    fn is_item(&self, literal: Literal, item: &Item) -> bool {
+        match (item, literal.atom()) {
+            (Item::Literal(listed), _) => literal == *listed,
+            (Item::Constraint(content), Atom::Constraint(i)) => {
+                !literal.is_negated() && self.constraints.get(i) == Some(content)
+            }
+            (Item::Constraint(_), Atom::Stream { .. }) => false,
+        }
+    }
+
+    /// Kind 2: "Base: q = 0 and not-prop at offsets 0 to k − 1, rising. Step:
+    /// prop at q where q is below k; not-prop where q = k."
+    fn is_property(&self, line: &Line, part: Part) -> bool {
+        let literals = line.clause.literals();
+        let holds = |offset| Literal::stream(self.node.property(), offset);
+        match (part, u8::try_from(line.q)) {
+            (Part::Base, Ok(0)) => literals
+                .iter()
+                .copied()
+                .eq((0..self.depth).map(|o| !holds(o))),
+            (Part::Step, Ok(q)) if q < self.depth => literals == [holds(q)],
+            (Part::Step, Ok(q)) if q == self.depth => literals == [!holds(q)],
+            _ => false,
+        }
+    }
+
+    /// Kind 3: "p and q are lower lines of the same part; literal r stands in
+    /// p, its opposite in q. Each literal of p but r, and of q but the
+    /// opposite, stands in this line. More may stand here."
+    fn is_join(&self, line: &Line, first: usize) -> bool {
+        let lower = |number: u16| {
+            let index = usize::from(number).checked_sub(first)?;
+            self.clauses.get(index)
+        };
+        let (Some(p), Some(q)) = (lower(line.p), lower(line.q)) else {
+            return false;
+        };
+        let r = Literal::from_number(line.r);
+        p.contains(r)
+            && q.contains(!r)
+            && p.stands_in(&line.clause, r)
+            && q.stands_in(&line.clause, !r)
+    }
+
+    /// Kind 4: "at least one literal, all on constraints. The opposites,
+    /// times their multipliers (1 to 1,000,000), sum to coefficient 0 at each
+    /// variable and to a bound of at most −1."
+    fn is_arithmetic(&mut self, line: &Line) -> bool {
+        let mut bound = 0;
+        for (literal, multiplier) in line.weighted() {
+            let Some(constraint) = self.constraint(literal) else {
+                return false;
+            };
+            bound += multiplier * opposite_bound(literal, constraint);
+            let factor = if literal.is_negated() {
+                multiplier
+            } else {
+                -multiplier
+            };
+            for term in constraint.terms() {
+                self.sums[usize::from(term.variable)] += factor * i128::from(term.coefficient);
+            }
+        }
+        line.clause.count > 0 && bound <= -1 && self.sums_vanish(&line.clause)
+    }
+
+    /// The constraint a literal is on.
+    fn constraint(&self, literal: Literal) -> Option<&'a Constraint> {
+        match literal.atom() {
+            Atom::Constraint(i) => self.constraints.get(i),
+            Atom::Stream { .. } => None,
+        }
+    }
+
+    /// Whether the sum is 0 at each variable of the clause's constraints.
+    fn sums_vanish(&self, clause: &Clause) -> bool {
+        let mut constraints = clause.literals().iter().filter_map(|l| self.constraint(*l));
+        constraints.all(|constraint| {
+            let mut terms = constraint.terms().iter();
+            terms.all(|term| self.sums[usize::from(term.variable)] == 0)
+        })
+    }
+}
+
+/// The bound of a literal's opposite. 01: "The negation of “sum at most B” is
+/// “minus sum at most −B − 1”."
+fn opposite_bound(literal: Literal, constraint: &Constraint) -> i128 {
+    let bound = i128::from(constraint.bound());
+    if literal.is_negated() {
+        bound
+    } else {
+        -bound - 1
+    }
+}

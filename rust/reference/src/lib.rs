@@ -1,0 +1,16 @@
+//! An independent implementation of "Induction certificates for Lustre
+//! booking nodes", called 01 in these comments: the node reader, the session
+//! and the certificate checker, over whole files and with no shared code.
+//!
+//! Every call is total: whatever the bytes, it answers or refuses, and it
+//! neither panics nor overflows.
+
+#![forbid(unsafe_code)]
+#![warn(missing_docs)]
+
+pub mod answer;
+pub mod build;
+pub mod certificate;
+pub mod node;
+pub mod session;
+pub mod wide;

@@ -1,0 +1,157 @@
+//! A session: a node run instant by instant, refusals 30 to 34.
+
+use crate::answer::{Place, Refusal};
+use crate::node::{self, Equation, Node, Type, MAX_BODY, MAX_STREAMS};
+use crate::wide;
+
+/// One value for each of 64 streams, of which a node uses the first n.
+type Values = [i64; MAX_STREAMS];
+
+/// The session record. 01: "The caller lends the session record, and an
+/// answered instant moves that very record on."
+///
+/// The fields are open, so a caller may lend anything: an instant's call
+/// checks its record anew each time.
+#[derive(Clone, Debug, PartialEq, Eq)]
+pub struct Record {
+    /// The length of the node file held; over 1,040 no node is held.
+    pub length: usize,
+    /// The node file without its note, zeros after it.
+    pub bytes: [u8; MAX_BODY],
+    /// Whether an instant was answered: the session is past instant 0.
+    pub answered: bool,
+    /// The values of the last answered instant; zeros before instant 0.
+    pub last: Values,
+}
+
+impl Record {
+    /// A record that holds no node.
+    pub const fn new() -> Self {
+        Record {
+            length: 0,
+            bytes: [0; MAX_BODY],
+            answered: false,
+            last: [0; MAX_STREAMS],
+        }
+    }
+
+    /// The node held; nothing is the first half of refusal 30: "record holds
+    /// no node passing 1 to 8".
+    fn node(&self) -> Option<Node<'_>> {
+        node::read(self.bytes.get(..self.length)?).ok()
+    }
+
+    /// The values one instant before, if there is such an instant.
+    fn before(&self) -> Option<&Values> {
+        self.answered.then_some(&self.last)
+    }
+}
+
+impl Default for Record {
+    fn default() -> Self {
+        Record::new()
+    }
+}
+
+/// 01: "Beginning takes a node file, checked by 1 to 8, and sets the record
+/// to its node, before instant 0."
+pub fn begin(record: &mut Record, file: &[u8]) -> Result<(), Refusal> {
+    let node = node::read(file)?;
+    let body = node.body();
+    *record = Record::new();
+    record.length = body.len();
+    for (byte, from) in record.bytes.iter_mut().zip(body) {
+        *byte = *from;
+    }
+    Ok(())
+}
+
+/// 01: "An instant's call takes one signed 64-bit number an input, in record
+/// order (bool: 0 or 1), and fills a lent slice of n values."
+///
+/// A refusal is met before the record or the slice is written.
+pub fn instant(record: &mut Record, inputs: &[i64], values: &mut [i64]) -> Result<(), Refusal> {
+    let node = checked_node(record)?;
+    check_lengths(&node, inputs, values)?;
+    check_inputs(&node, inputs)?;
+    let now = work_out(&node, record.before(), inputs)?;
+    let now = &now[..node.count()];
+    values.copy_from_slice(now);
+    record.last[..now.len()].copy_from_slice(now);
+    record.answered = true;
+    Ok(())
+}
+
+/// Refusal 30: "record holds no node passing 1 to 8, or, past instant 0, a
+/// bool of the last answered instant is not 0 or 1".
+fn checked_node(record: &Record) -> Result<Node<'_>, Refusal> {
+    let node = record.node().ok_or(Refusal::file(30))?;
+    let in_type = |(kind, value): (&Type, &i64)| *kind == Type::Int || is_bool(*value);
+    match record.before() {
+        Some(last) if !node.types().iter().zip(last).all(in_type) => Err(Refusal::file(30)),
+        _ => Ok(node),
+    }
+}
+
+/// Refusals 31 and 32: "input count; value slice length".
+fn check_lengths(node: &Node, inputs: &[i64], values: &[i64]) -> Result<(), Refusal> {
+    if inputs.len() != node.inputs().len() {
+        return Err(Refusal::file(31));
+    }
+    if values.len() != node.count() {
+        return Err(Refusal::file(32));
+    }
+    Ok(())
+}
+
+/// Refusal 33: "bool input not 0 or 1; lowest record".
+fn check_inputs(node: &Node, inputs: &[i64]) -> Result<(), Refusal> {
+    for (&stream, &input) in node.inputs().iter().zip(inputs) {
+        let stream = usize::from(stream);
+        if node.types()[stream] == Type::Bool && !is_bool(input) {
+            return Err(Refusal::new(33, Place::Record(stream)));
+        }
+    }
+    Ok(())
+}
+
+fn is_bool(value: i64) -> bool {
+    matches!(value, 0 | 1)
+}
+
+/// 01: "All n streams are worked out, untaken branches too." Streams are
+/// taken by rising number, so the first value that does not fit is that of
+/// refusal 34: "value outside −2^63 to 2^63 − 1; lowest stream".
+fn work_out(node: &Node, before: Option<&Values>, inputs: &[i64]) -> Result<Values, Refusal> {
+    let mut now = [0; MAX_STREAMS];
+    for (&stream, &input) in node.inputs().iter().zip(inputs) {
+        now[usize::from(stream)] = input;
+    }
+    for (i, &equation) in node.equations().iter().enumerate() {
+        let value = value(i, equation, &now, before);
+        now[i] = wide::narrow(value).ok_or(Refusal::new(34, Place::Record(i)))?;
+    }
+    Ok(now)
+}
+
+/// Stream `own`'s value in its operator's row, however wide. The operands
+/// needed now have lower numbers, so `now` has them, as it has every input.
+fn value(own: usize, equation: Equation, now: &Values, before: Option<&Values>) -> i128 {
+    let at = |stream: u8| now[usize::from(stream)];
+    let fitting = match equation {
+        Equation::Sum { a, b } => return wide::sum(at(a), at(b)),
+        Equation::Difference { a, b } => return wide::difference(at(a), at(b)),
+        Equation::Multiple { k, a } => return wide::product(k, at(a)),
+        Equation::Input => now[own],
+        Equation::Constant { k } => i64::from(k),
+        Equation::Not { a } => at(a) ^ 1,
+        Equation::And { a, b } => at(a) & at(b),
+        Equation::Or { a, b } => at(a) | at(b),
+        Equation::Same { a, b } | Equation::Equal { a, b } => i64::from(at(a) == at(b)),
+        Equation::AtMost { a, b } => i64::from(at(a) <= at(b)),
+        Equation::Choice { a, b, c } => at(if at(c) == 1 { a } else { b }),
+        Equation::Arrow { a, b } => at(if before.is_none() { a } else { b }),
+        Equation::ArrowPre { a, b } => before.map_or(at(a), |last| last[usize::from(b)]),
+    };
+    i128::from(fitting)
+}

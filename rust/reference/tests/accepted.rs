@@ -1,0 +1,102 @@
+//! Accepted certificates: depths 1 to 8, every operator, bool and int.
+
+mod common;
+#[path = "common/examples.rs"]
+mod examples;
+
+use common::{accepted, two_bands};
+use examples::{
+    certified, counter, first_only, five_then_nothing, int_ring, nothing_doubled, one_more,
+    one_more_certificate, ring, ten_at_most, twins,
+};
+use reference::build::search::certificate;
+use reference::build::{CertificateFile, NodeFile};
+use reference::certificate::check;
+
+/// The certificate found for the node.
+#[track_caller]
+fn found(node: &NodeFile, depth: u8) -> CertificateFile {
+    certificate(&node.bytes(), depth).expect("a certificate")
+}
+
+#[test]
+fn written_by_hand() {
+    let (node, certificate) = two_bands();
+    accepted(&node, &certificate);
+    accepted(&one_more(), &one_more_certificate());
+    let verdict = check(&one_more().bytes(), &one_more_certificate().bytes()).unwrap();
+    assert_eq!(verdict.to_string(), "accepted depth 1 base 9 step 9");
+}
+
+#[test]
+fn every_example() {
+    for (node, certificate) in certified() {
+        accepted(&node, &certificate);
+    }
+}
+
+#[test]
+fn operator_8_and_10() {
+    for depth in [1, 2, 8] {
+        accepted(&nothing_doubled(), &found(&nothing_doubled(), depth));
+    }
+}
+
+#[test]
+fn operator_11() {
+    for depth in [1, 2] {
+        accepted(&ten_at_most(), &found(&ten_at_most(), depth));
+    }
+}
+
+#[test]
+fn operator_12() {
+    for depth in [1, 2, 8] {
+        accepted(&first_only(), &found(&first_only(), depth));
+        accepted(&five_then_nothing(), &found(&five_then_nothing(), depth));
+    }
+}
+
+#[test]
+fn operator_13() {
+    for depth in [1, 2] {
+        accepted(&counter(), &found(&counter(), depth));
+        accepted(&twins(), &found(&twins(), depth));
+    }
+}
+
+#[test]
+fn rings_need_their_depth() {
+    for depth in 1..=8 {
+        let size = u16::from(depth);
+        accepted(&ring(size), &found(&ring(size), depth));
+        accepted(&int_ring(size), &found(&int_ring(size), depth));
+        if depth > 1 {
+            assert_eq!(certificate(&ring(size).bytes(), depth - 1), None);
+        }
+    }
+}
+
+#[test]
+fn every_kind_stands_in_both_parts() {
+    let certificate = found(&ten_at_most(), 1);
+    for kind in 1..=4 {
+        assert!(certificate.base.iter().any(|line| line.kind == kind));
+        assert!(certificate.step.iter().any(|line| line.kind == kind));
+    }
+}
+
+#[test]
+fn a_certificate_is_for_its_node() {
+    // The same certificate for a node one constant away.
+    let certificate = found(&ten_at_most(), 1);
+    let mut other = ten_at_most();
+    other.records[2].k = 10;
+    assert!(check(&other.bytes(), &certificate.bytes()).is_err());
+    let mut weaker = ten_at_most();
+    weaker.records[3].k = 11;
+    assert!(check(&weaker.bytes(), &certificate.bytes()).is_err());
+    accepted(&weaker, &found(&weaker, 1));
+    let verdict = check(&weaker.bytes(), &found(&ten_at_most(), 1).bytes());
+    assert!(verdict.is_err());
+}

@@ -1,0 +1,199 @@
+//! Nodes whose properties hold, with depths that suffice.
+
+#![allow(dead_code)]
+
+use reference::build::proof::{two_bands_certificate, two_bands_node, Proof};
+use reference::build::search;
+use reference::build::{
+    lit, on, opp, CertificateFile, Constraint, Line, NodeFile, Record, BOOL, INT,
+};
+
+/// 0 zero; 1 one; 2 c = zero -> pre (c + one); 4 c is not below zero.
+pub fn counter() -> NodeFile {
+    let records = vec![
+        Record::constant(INT, 0),
+        Record::constant(INT, 1),
+        Record::arrow_pre(INT, 0, 3),
+        Record::sum(2, 1),
+        Record::at_most(0, 2),
+    ];
+    NodeFile::new(records, 4)
+}
+
+/// Operator 11: a counter that stays at ten, and is never above it.
+pub fn ten_at_most() -> NodeFile {
+    let records = vec![
+        Record::constant(INT, 0),
+        Record::constant(INT, 1),
+        Record::constant(INT, 9),
+        Record::constant(INT, 10),
+        Record::arrow_pre(INT, 0, 7),
+        Record::at_most(4, 2),
+        Record::sum(4, 1),
+        Record::choice(INT, 5, 6, 4),
+        Record::at_most(4, 3),
+    ];
+    NodeFile::new(records, 8)
+}
+
+/// Operators 8 and 10: nothing times minus seven is nothing.
+pub fn nothing_doubled() -> NodeFile {
+    let records = vec![
+        Record::constant(INT, 0),
+        Record::arrow_pre(INT, 0, 2),
+        Record::multiple(-7, 1),
+        Record::equal(1, 0),
+    ];
+    NodeFile::new(records, 3)
+}
+
+/// Operator 12: true -> false, and later what it was, are never both true.
+pub fn first_only() -> NodeFile {
+    let records = vec![
+        Record::constant(BOOL, 1),
+        Record::constant(BOOL, 0),
+        Record::arrow(BOOL, 0, 1),
+        Record::arrow_pre(BOOL, 1, 2),
+        Record::and(2, 3),
+        Record::not(4),
+    ];
+    NodeFile::new(records, 5)
+}
+
+/// Operator 12 over ints: 5 -> x - x is at most 5.
+pub fn five_then_nothing() -> NodeFile {
+    let records = vec![
+        Record::input(INT),
+        Record::constant(INT, 5),
+        Record::difference(0, 0),
+        Record::arrow(INT, 1, 2),
+        Record::at_most(3, 1),
+    ];
+    NodeFile::new(records, 4)
+}
+
+/// Two counters that are always equal, one stepping by an input and one by
+/// minus its negation (operators 7, 8, 10, 13).
+pub fn twins() -> NodeFile {
+    let records = vec![
+        Record::constant(INT, 3),
+        Record::input(INT),
+        Record::multiple(-1, 1),
+        Record::arrow_pre(INT, 0, 5),
+        Record::arrow_pre(INT, 0, 6),
+        Record::sum(3, 1),
+        Record::difference(4, 2),
+        Record::equal(3, 4),
+    ];
+    NodeFile::new(records, 7)
+}
+
+/// A ring of delays, false to begin with; that the first is false holds by
+/// induction of just this depth.
+pub fn ring(depth: u16) -> NodeFile {
+    let mut records = vec![Record::constant(BOOL, 0)];
+    for i in 1..=depth {
+        records.push(Record::arrow_pre(BOOL, 0, i % depth + 1));
+    }
+    records.push(Record::not(1));
+    NodeFile::new(records, depth + 1)
+}
+
+/// The ring over ints: the first is equal to zero.
+pub fn int_ring(depth: u16) -> NodeFile {
+    let mut records = vec![Record::constant(INT, 0)];
+    for i in 1..=depth {
+        records.push(Record::arrow_pre(INT, 0, i % depth + 1));
+    }
+    records.push(Record::equal(1, 0));
+    NodeFile::new(records, depth + 1)
+}
+
+/// 0 an int input; 1 one; 2 their sum; 3 the input at most the sum.
+pub fn one_more() -> NodeFile {
+    let records = vec![
+        Record::input(INT),
+        Record::constant(INT, 1),
+        Record::sum(0, 1),
+        Record::at_most(0, 2),
+    ];
+    NodeFile::new(records, 3)
+}
+
+/// The three constraints of [`one_more`] at an offset: 2 − 0 at most −1,
+/// 0 + 1 − 2 at most 0, and minus 1 at most −1.
+fn one_more_constraints(offset: u8) -> [Constraint; 3] {
+    let at = |stream, coefficient| (stream, offset, coefficient);
+    [
+        Constraint::new(&[at(0, -1), at(2, 1)], -1),
+        Constraint::new(&[at(0, 1), at(1, 1), at(2, -1)], 0),
+        Constraint::new(&[at(1, -1)], -1),
+    ]
+}
+
+/// One part of [`one_more`]'s certificate, written by hand.
+fn one_more_part(first: usize, q: u16, constraint: u16) -> Vec<Line> {
+    let [below, sum, one] = [0, 1, 2].map(|i| on(constraint + i));
+    let mut proof = Proof::new(first);
+    let not_3 = proof.property(q, &[opp(lit(3, q))]);
+    let or_below = proof.equation(3, q, 1, &[lit(3, q), below]);
+    let is_below = proof.join(or_below, not_3, lit(3, q));
+    let is_sum = proof.equation(2, q, 1, &[sum]);
+    let is_one = proof.equation(1, q, 1, &[one]);
+    let clash = proof.arithmetic(&[(opp(below), 1), (opp(sum), 1), (opp(one), 1)]);
+    let clash = proof.join(is_below, clash, below);
+    let clash = proof.join(is_sum, clash, sum);
+    proof.join(is_one, clash, one);
+    proof.lines
+}
+
+/// [`one_more`]'s certificate, written by hand.
+pub fn one_more_certificate() -> CertificateFile {
+    let base = one_more_part(0, 0, 0);
+    let step = one_more_part(base.len(), 1, 3);
+    let constraints = [one_more_constraints(0), one_more_constraints(1)];
+    CertificateFile {
+        note: Vec::new(),
+        depth: 1,
+        constraints: constraints.concat(),
+        base,
+        step,
+    }
+}
+
+/// Every node here with a depth at which a certificate is found.
+pub fn provable() -> Vec<(NodeFile, u8)> {
+    let mut nodes = vec![
+        (two_bands_node(), 1),
+        (one_more(), 1),
+        (counter(), 1),
+        (ten_at_most(), 1),
+        (nothing_doubled(), 1),
+        (first_only(), 1),
+        (five_then_nothing(), 1),
+        (twins(), 1),
+        (nothing_doubled(), 2),
+        (first_only(), 2),
+        (twins(), 2),
+        (two_bands_node(), 8),
+        (five_then_nothing(), 8),
+    ];
+    for depth in 1..=8 {
+        nodes.push((ring(u16::from(depth)), depth));
+        nodes.push((int_ring(u16::from(depth)), depth));
+    }
+    nodes
+}
+
+/// The certificates of [`provable`], and the two written by hand.
+pub fn certified() -> Vec<(NodeFile, CertificateFile)> {
+    let mut pairs = vec![
+        (two_bands_node(), two_bands_certificate()),
+        (one_more(), one_more_certificate()),
+    ];
+    for (node, depth) in provable() {
+        let found = search::certificate(&node.bytes(), depth).expect("a certificate");
+        pairs.push((node, found));
+    }
+    pairs
+}

@@ -1,0 +1,224 @@
+//! 01's four false turns, each in a certificate for a property that fails,
+//! and the wrong checkers that 01 tells to try.
+
+mod common;
+#[path = "common/examples.rs"]
+mod examples;
+
+use common::{accepted, refused, trial, two_bands};
+use reference::answer::Place::{self, Line as AtLine};
+use reference::build::proof::Proof;
+use reference::build::search;
+use reference::build::{
+    lit, on, opp, CertificateFile, Constraint, Line, NodeFile, Record, BOOL, INT,
+};
+use reference::certificate::Part::{Base, Step};
+use reference::session::{begin, instant, Record as Session};
+
+/// The property's values on a node without inputs.
+fn property_values(node: &NodeFile, instants: usize) -> Vec<i64> {
+    let mut session = Session::new();
+    begin(&mut session, &node.bytes()).unwrap();
+    let mut values = vec![0; node.records.len()];
+    let mut run = || {
+        instant(&mut session, &[], &mut values).unwrap();
+        values[usize::from(node.property)]
+    };
+    (0..instants).map(|_| run()).collect()
+}
+
+/// "treating step offset 0 as instant 0": 2 is true -> false, 3 is true ->
+/// pre 2 and the property, which fails at instant 2.
+#[test]
+fn step_offset_0_is_not_instant_0() {
+    for arrow in [Record::arrow, Record::arrow_pre] {
+        let records = vec![
+            Record::constant(BOOL, 1),
+            Record::constant(BOOL, 0),
+            arrow(BOOL, 0, 1),
+            Record::arrow_pre(BOOL, 0, 2),
+        ];
+        let node = NodeFile::new(records, 3);
+        assert_eq!(property_values(&node, 3), [1, 1, 0]);
+        let mut base = Proof::new(0);
+        let fails = base.property(0, &[opp(lit(3, 0))]);
+        let starts = base.equation(3, 0, 1, &[lit(3, 0), opp(lit(0, 0))]);
+        let truth = base.equation(0, 0, 0, &[lit(0, 0)]);
+        let joined = base.join(starts, fails, lit(3, 0));
+        base.join(truth, joined, lit(0, 0));
+        let mut step = Proof::new(base.lines.len());
+        let fails = step.property(1, &[opp(lit(3, 1))]);
+        let before = step.equation(3, 1, 1, &[lit(3, 1), opp(lit(2, 0))]);
+        let starts = step.equation(2, 0, 1, &[lit(2, 0), opp(lit(0, 0))]);
+        let truth = step.equation(0, 0, 0, &[lit(0, 0)]);
+        let joined = step.join(before, fails, lit(3, 1));
+        let joined = step.join(starts, joined, lit(2, 0));
+        step.join(truth, joined, lit(0, 0));
+        let certificate = CertificateFile {
+            depth: 1,
+            base: base.lines,
+            step: step.lines,
+            ..CertificateFile::default()
+        };
+        refused(&node, &certificate, 17, AtLine(7));
+    }
+}
+
+/// "dropping the −1 from a negated constraint": the negation of u ≤ v is
+/// v − u at most −1, in the clauses of 9 and 10 and in the sums of kind 4.
+#[test]
+fn a_negated_constraint_keeps_its_minus_1() {
+    let node = NodeFile::new(
+        vec![
+            Record::input(INT),
+            Record::input(INT),
+            Record::at_most(0, 1),
+            Record::equal(0, 1),
+            Record::constant(BOOL, 1),
+        ],
+        4,
+    );
+    let mut certificate = common::constant_certificate(4, 1);
+    certificate.constraints = vec![
+        Constraint::new(&[(0, 0, 1), (1, 0, -1)], 0),
+        Constraint::new(&[(0, 0, -1), (1, 0, 1)], 0),
+        Constraint::new(&[(0, 0, 1), (1, 0, -1)], -1),
+        Constraint::new(&[(0, 0, -1), (1, 0, 1)], -1),
+    ];
+    let [u_v, v_u, u_below_v, v_below_u] = [0, 1, 2, 3].map(on);
+    let answer = |line| [Base, Step].map(|part| trial(&node, &certificate, part, line));
+    let at_most = |literal| Line::equation(2, 0, 1, &[lit(2, 0), literal]);
+    assert_eq!(answer(at_most(v_u)), [Err(17); 2]);
+    assert_eq!(answer(at_most(v_below_u)), [Ok(()); 2]);
+    let equal = |x, y| Line::equation(3, 0, 2, &[lit(3, 0), x, y]);
+    assert_eq!(answer(equal(u_v, v_u)), [Err(17); 2]);
+    assert_eq!(answer(equal(u_below_v, v_u)), [Err(17); 2]);
+    assert_eq!(answer(equal(u_v, v_below_u)), [Err(17); 2]);
+    assert_eq!(answer(equal(u_below_v, v_below_u)), [Ok(()); 2]);
+    // {u ≤ v, !(u ≤ v)} and {u ≤ v, v ≤ u} need the −1; without a negated
+    // constraint there is none to help.
+    let sum = |x, y| Line::arithmetic(&[(x, 1), (y, 1)]);
+    assert_eq!(answer(sum(u_v, opp(u_v))), [Ok(()); 2]);
+    assert_eq!(answer(sum(u_v, v_u)), [Ok(()); 2]);
+    assert_eq!(answer(sum(opp(u_v), opp(v_u))), [Err(20); 2]);
+    // {u < v, v < u} does not hold of every u and v.
+    assert_eq!(answer(sum(u_below_v, v_below_u)), [Err(20); 2]);
+}
+
+/// "a join that strikes both signs from both clauses": 0 is an input and the
+/// property, 1 is not 0; {0, !0} and {!0} would join to { }.
+#[test]
+fn a_join_strikes_one_sign_from_each_clause() {
+    let node = NodeFile::new(vec![Record::input(BOOL), Record::not(0)], 0);
+    let part = |first: usize, q: u16, last: &[u16]| {
+        let mut proof = Proof::new(first);
+        let fails = proof.property(q, &[opp(lit(0, q))]);
+        let either = proof.equation(1, q, 0, &[lit(1, q), lit(0, q)]);
+        let neither = proof.equation(1, q, 1, &[opp(lit(1, q)), opp(lit(0, q))]);
+        let both = proof.join(either, neither, lit(1, q));
+        assert_eq!(proof.clause(both), [lit(0, q), opp(lit(0, q))]);
+        proof.push(Line::join(both, fails, lit(0, q), last));
+        proof.lines
+    };
+    let mut certificate = CertificateFile {
+        depth: 1,
+        base: part(0, 0, &[]),
+        step: part(5, 1, &[]),
+        ..CertificateFile::default()
+    };
+    refused(&node, &certificate, 19, AtLine(4));
+    certificate.base = part(0, 0, &[opp(lit(0, 0))]);
+    refused(&node, &certificate, 19, AtLine(9));
+    certificate.step = part(5, 1, &[opp(lit(0, 1))]);
+    refused(&node, &certificate, 21, Place::Base);
+    // Nor does it strike the opposite from p, or r from q.
+    let both = [lit(0, 0), opp(lit(0, 0))];
+    let with_itself = |literals: &[u16]| Line::join(3, 3, lit(0, 0), literals);
+    let mut longer = certificate.clone();
+    longer.base[4] = with_itself(&both);
+    refused(&node, &longer, 21, Place::Base);
+    for literals in [&[][..], &both[..1], &both[1..]] {
+        longer.base[4] = with_itself(literals);
+        refused(&node, &longer, 19, AtLine(4));
+    }
+}
+
+/// "a step line citing a base line": 0 is false -> pre 1, 1 is true and the
+/// property is not 0, which fails at instant 1; the base's {!0 at 0} is not
+/// the step's.
+#[test]
+fn a_step_line_may_not_cite_a_base_line() {
+    let records = vec![
+        Record::constant(BOOL, 0),
+        Record::constant(BOOL, 1),
+        Record::arrow_pre(BOOL, 0, 1),
+        Record::arrow_pre(BOOL, 0, 2),
+        Record::not(3),
+    ];
+    let node = NodeFile::new(records, 4);
+    assert_eq!(property_values(&node, 3), [1, 1, 0]);
+    let mut base = Proof::new(0);
+    let fails = base.property(0, &[opp(lit(4, 0))]);
+    let or_3 = base.equation(4, 0, 0, &[lit(4, 0), lit(3, 0)]);
+    let is_3 = base.join(or_3, fails, lit(4, 0));
+    let starts = base.equation(3, 0, 0, &[opp(lit(3, 0)), lit(0, 0)]);
+    let falsity = base.equation(0, 0, 0, &[opp(lit(0, 0))]);
+    let not_3 = base.join(starts, falsity, lit(0, 0));
+    base.join(is_3, not_3, lit(3, 0));
+    // What the step lacks: 2 is false at its offset 0.
+    let starts = base.equation(2, 0, 0, &[opp(lit(2, 0)), lit(0, 0)]);
+    let not_2 = base.join(starts, falsity, lit(0, 0));
+    assert_eq!(base.clause(not_2), [opp(lit(2, 0))]);
+    let mut step = Proof::new(base.lines.len());
+    let fails = step.property(1, &[opp(lit(4, 1))]);
+    let or_3 = step.equation(4, 1, 0, &[lit(4, 1), lit(3, 1)]);
+    let is_3 = step.join(or_3, fails, lit(4, 1));
+    let before = step.equation(3, 1, 0, &[opp(lit(3, 1)), lit(2, 0)]);
+    let is_2 = step.join(is_3, before, lit(3, 1));
+    step.push(Line::join(is_2, not_2, lit(2, 0), &[]));
+    let mut certificate = CertificateFile {
+        depth: 1,
+        base: base.lines,
+        step: step.lines,
+        ..CertificateFile::default()
+    };
+    refused(&node, &certificate, 19, AtLine(14));
+    certificate.step[5] = Line::join(not_2, is_2, opp(lit(2, 0)), &[]);
+    refused(&node, &certificate, 19, AtLine(14));
+    certificate.step.pop();
+    refused(&node, &certificate, 21, Place::Step);
+    assert_eq!(search::certificate(&node.bytes(), 1), None);
+}
+
+/// A base that is right does not carry a step that is not, nor the other way
+/// round.
+#[test]
+fn both_parts_are_checked() {
+    let (node, certificate) = two_bands();
+    for number in 0..24 {
+        let mut wrong = certificate.clone();
+        let line = match number {
+            0..12 => &mut wrong.base[number],
+            _ => &mut wrong.step[number - 12],
+        };
+        line.literals[0] ^= 1;
+        let expected = match (line.kind, line.count) {
+            (_, 0) => 16,
+            (1, _) => 17,
+            (2, _) => 18,
+            _ => 19,
+        };
+        refused(&node, &wrong, expected, AtLine(number));
+    }
+}
+
+/// Every line matters: without its last join no part is done.
+#[test]
+fn line_counts_are_the_trailer_s() {
+    for (node, certificate) in examples::certified() {
+        accepted(&node, &certificate);
+        let mut short = certificate.clone();
+        short.step.pop();
+        refused(&node, &short, 21, Place::Step);
+    }
+}
