@@ -3,14 +3,12 @@
 use mathlib.Core.Path.{_≡_, refl, sym, _∙_, ap}
 use mathlib.Core.List.{List, [], _∷_}
 use Prim.Native.Nat.{ℕ}
-use native.Mathlib.Omega.{arith}
 use lib.ListN.{getD}
-use Rattle.answers.specs.declared.Place.{Place}
 use Rattle.answers.specs.declared.Rule.{Rule}
 use Rattle.answers.specs.declared.Rule.the-variants.{NodeLength, NodeFixedBytes, NodeCounts, NodeDistance, RecordShape, RecordOperands, RecordTypes, PropertyType, CertificateLength, CertificateFixedBytes, CertificateCounts, CertificateDistance, ConstraintShape, LineShape, EquationLine, PropertyLine, JoinLine, ArithmeticLine, NoEmptyLine, NoNode, InputCount, SliceLength, BoolInput, OutsideRange}
 use Rattle.answers.specs.declared.NodeVerdict.{NodeVerdict}
 use Rattle.answers.specs.declared.NodeVerdict.the-variants.{Accepted, Refused}
-use Rattle.answers.specs.Answer.{Answer, accepted, refused, NodeValues, numberOf, nodeAnswer}
+use Rattle.answers.specs.Answer.{NodeValues, numberOf, nodeAnswer}
 
 -- the rules by their numbers; at a number that the table does not have, any rule
 rules : List Rule

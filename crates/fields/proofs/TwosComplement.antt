@@ -1,15 +1,14 @@
 -- A machine's signed word is the two's complement of its bits, at every width.
 -- Assumes nothing.
 use mathlib.Core.Path.{_≡_, refl, sym, _∙_, ap, subst}
-use mathlib.Core.Bool.{Bool, true, false}
-use Prim.Native.Nat.{ℕ, zero, suc, _+_, _-_, _<_, _≤_, _^_}
+use Prim.Native.Nat.{ℕ, zero, suc, _+_, _<_, _^_}
 use native.Mathlib.Nat.{zero-add, add-suc}
 use native.Mathlib.Omega.{arith}
 use borrow.Author.Tests.{lt-ltb, le-ltb}
-use lib.IntN.{ℤ, pos, negsuc, _-ℤ_}
+use lib.IntN.{pos, negsuc, _-ℤ_}
 use mir.Syntax.{Width}
 use mir.Val.{hbits, SFits, toZ, ofZ}
-use mir.ValLaws.{toZ-pos, toZ-neg, toZ-ofZ}
+use mir.ValLaws.{toZ-pos, toZ-ofZ}
 use Rattle.fields.specs.Fields.{twosComplement}
 
 low : (half n : ℕ) → n < half → twosComplement half n ≡ pos n

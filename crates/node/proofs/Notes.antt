@@ -1,13 +1,12 @@
 -- The note of a file: it is no longer than the file, and with the records and the trailer it is the file.
 -- Assumes nothing.
-use mathlib.Core.Path.{_≡_, refl, sym, _∙_, ap}
+use mathlib.Core.Path.{_≡_, _∙_, ap}
 use mathlib.Core.List.{List, _++_}
 use Prim.Native.Nat.{ℕ, _-_, _≤_, zero-le}
 use native.Mathlib.Omega.{arith}
-use lib.ListN.{length, take, drop, take-append-drop, length-drop}
-use Rattle.answers.specs.declared.Place.{Place}
+use lib.ListN.{length, take, take-append-drop, length-drop}
 use Rattle.answers.specs.Answer.{Answer, accepted, refused, NodeValues}
-use Rattle.node.specs.Layout.{sizeOf, streamsOf}
+use Rattle.node.specs.Layout.{sizeOf}
 use Rattle.node.specs.Note.{noteLength, noteOf, withoutNote}
 use Rattle.node.specs.Verdict.{verdictOf}
 use Rattle.node.proofs.FileRules.{Sizes, sizes}

@@ -1,21 +1,16 @@
 -- Every answer to a node file says what it should: accepted exactly where the rules 1 to 8 hold, refused with the first that
 -- fails at its lowest place.
 -- Assumes nothing.
-use mathlib.Core.Path.{_≡_, refl, sym, _∙_, subst}
+use mathlib.Core.Path.{_≡_, refl, subst}
 use mathlib.Core.List.{List}
 use Prim.Native.Nat.{ℕ}
-use lib.ListN.{length}
 use Rattle.answers.specs.declared.Place.{Place}
 use Rattle.answers.specs.declared.Place.the-variants.{File, Record as AtRecord}
-use Rattle.answers.specs.Answer.{Answer, accepted, refused, NodeValues}
-use Rattle.answers.specs.Checks.{check, checkAll, lowest}
+use Rattle.answers.specs.Answer.{accepted, refused, NodeValues}
 use Rattle.answers.proofs.InARow.{by-check, by-check-all}
 use Rattle.answers.proofs.Lowest.{none, all, first}
-use Rattle.node.specs.declared.reading.RecordRule.{RecordRule}
-use Rattle.node.specs.declared.reading.RecordRule.the-variants.{Shape, Operands, Types}
-use Rattle.node.specs.Layout.{trailerOf, streamsOf, propertyOf, typeOf}
-use Rattle.node.specs.Rules.{lengthOk, fixedOk, countsOk, distanceOk, propertyOk}
-use Rattle.node.specs.Verdict.{passesOf, recordsVerdict, verdictOf}
+use Rattle.node.specs.Layout.{streamsOf, propertyOf}
+use Rattle.node.specs.Verdict.{recordsVerdict, verdictOf}
 use Rattle.node.specs.Outcome.{FileRules, NodeRules, FirstFailure, at-1, at-2, at-3, at-4, at-5, at-6, at-7, at-8, Says}
 
 module _ (s : List ℕ) where

@@ -1,18 +1,18 @@
 -- The rule of the table, proved once over all its rows: what an equation reads, its own type and its constant are those of its
 -- operator's row.
 -- Assumes nothing.
-use mathlib.Core.Path.{_≡_, refl}
-use mathlib.Core.Bool.{Bool, true, false, not}
+use mathlib.Core.Path.{_≡_}
+use mathlib.Core.Bool.{Bool, true, not}
 use mathlib.Core.List.{List, [], _∷_, _++_}
 use Prim.Native.Nat.{ℕ, _<_}
 use Rattle.node.specs.declared.layout.Record.{Record}
 use Rattle.node.specs.declared.table.Wanted.{Wanted}
 use Rattle.node.specs.declared.table.Wanted.the-variants.{Unused, ABool, AnInt, Own}
 use Rattle.node.specs.declared.table.Row.{Row}
-use Rattle.node.specs.Equations.{decoded, equations}
+use Rattle.node.specs.Equations.{decoded}
 use Rattle.node.specs.Reads.{Read, reads, yields}
-use Rattle.node.specs.Table.{rows, rowOf}
-use Rattle.node.proofs.Entries.{Each, each}
+use Rattle.node.specs.Table.{rowOf}
+use Rattle.node.proofs.Entries.{each}
 
 -- an operand as a row has it
 abbrev pub reading : Wanted → (now : Bool) → ℕ → List Read

@@ -1,10 +1,10 @@
 -- Every equation of an accepted file is well formed: its operands are in place and of the right type, and its constant is in
 -- range. The argument goes by the operator's row and not by the operator.
 -- Assumes nothing.
-use mathlib.Core.Path.{_≡_, refl, sym, _∙_, ap, subst}
+use mathlib.Core.Path.{_≡_, refl, ap}
 use mathlib.Core.Bool.{Bool, true, false, not, cond, _&&_, _||_}
 use mathlib.Core.List.{List, [], _∷_, _++_}
-use Prim.Native.Nat.{ℕ, _<_, _≤_}
+use Prim.Native.Nat.{ℕ, _<_}
 use native.Mathlib.Omega.{arith}
 use borrow.Author.Tests.{leb-true, ltb-true, eqb-true}
 use lib.Dec.{leb, ltb, eqb}
@@ -13,20 +13,17 @@ use lib.Signed.{leZ, _≤ℤ_}
 use Rattle.integers.proofs.Order.{leZ-true}
 use Rattle.answers.specs.Answer.{accepted, NodeValues}
 use Rattle.answers.proofs.Tests.{both-true}
-use Rattle.node.specs.declared.equation.Kind.{Kind}
 use Rattle.node.specs.declared.equation.Kind.the-variants.{Bool as BoolKind, Int as IntKind}
 use Rattle.node.specs.declared.layout.Record.{Record}
-use Rattle.node.specs.declared.reading.RecordRule.the-variants.{Shape, Operands, Types}
-use Rattle.node.specs.declared.table.Limit.{Limit}
-use Rattle.node.specs.declared.table.Limit.the-variants.{Zero, Value, Factor}
+use Rattle.node.specs.declared.table.Limit.the-variants.{Zero, Value}
 use Rattle.node.specs.declared.table.Wanted.{Wanted}
 use Rattle.node.specs.declared.table.Wanted.the-variants.{Unused, ABool, AnInt, Own}
-use Rattle.node.specs.Equations.{kindOf, kindAt, decoded, equations, equationAt}
-use Rattle.node.specs.Layout.{streamsOf, propertyOf, recordOf, typeOf}
+use Rattle.node.specs.Equations.{kindOf, kindAt, decoded}
+use Rattle.node.specs.Layout.{streamsOf, recordOf, typeOf}
 use Rattle.node.specs.Outcome.{NodeRules}
-use Rattle.node.specs.Reads.{Read, reads, yields, wantedKind, All, ReadOk, Limited, ConstantIn, ConstantOk, WellFormed, WellFormedFile}
+use Rattle.node.specs.Reads.{reads, yields, wantedKind, All, ReadOk, ConstantIn, ConstantOk, WellFormedFile}
 use Rattle.node.specs.Rules.{constantLimit, within, constantOk, unusedOk, shapeOk, placed, operandsOk, hasType, typesOk, propertyOk}
-use Rattle.node.specs.Table.{rows, rowOf, readsIt}
+use Rattle.node.specs.Table.{rowOf, readsIt}
 use Rattle.node.specs.Verdict.{verdictOf}
 use Rattle.node.proofs.Entries.{each}
 use Rattle.node.proofs.FileRules.{sizes}

@@ -1,22 +1,22 @@
 -- The note means nothing: an accepted file without its note, or with another, is accepted with the same values and decodes to
 -- the same records.
 -- Assumes nothing.
-use mathlib.Core.Path.{_≡_, refl, sym, _∙_, ap, ap₂, fun-ext}
-use mathlib.Core.Bool.{Bool, true, cond, _&&_}
+use mathlib.Core.Path.{_≡_, sym, _∙_, ap, ap₂, fun-ext}
+use mathlib.Core.Bool.{cond}
 use mathlib.Core.List.{List}
-use Prim.Native.Nat.{ℕ, _+_, _-_, _*_, _<_, _≤_}
+use Prim.Native.Nat.{ℕ, _+_, _-_, _≤_}
 use native.Mathlib.Nat.{add-assoc}
 use native.Mathlib.Omega.{arith}
 use borrow.Author.Tests.{le-leb, eq-eqb}
-use lib.Dec.{leb, ltb}
+use lib.Dec.{ltb}
 use lib.ListN.{length, drop, length-drop}
 use lib.Seq.{getD-drop}
-use Rattle.answers.specs.Answer.{Answer, accepted, NodeValues}
+use Rattle.answers.specs.Answer.{accepted, NodeValues}
 use Rattle.node.specs.declared.layout.Trailer.{Trailer}
 use Rattle.node.specs.declared.layout.Record.{Record}
 use Rattle.node.specs.declared.reading.RecordRule.{RecordRule}
 use Rattle.node.specs.declared.reading.RecordRule.the-variants.{Shape, Operands, Types}
-use Rattle.node.specs.Layout.{trailerAt, trailerOf, recordAt, streamsOf, propertyOf, sizeOf, recordsOf, startOf, emptyRecord, recordOf, typeOf}
+use Rattle.node.specs.Layout.{trailerAt, trailerOf, recordAt, streamsOf, propertyOf, sizeOf, recordsOf, emptyRecord, recordOf, typeOf}
 use Rattle.node.specs.Outcome.{FileRules, NodeRules, AllKeep}
 use Rattle.node.specs.Rules.{lengthOk, fixedOk, countsOk, distanceOk, shapeOk, operandsOk, typesOk, propertyOk}
 use Rattle.node.specs.Verdict.{passesOf, verdictOf}

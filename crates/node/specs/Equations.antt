@@ -1,7 +1,7 @@
 -- What a record defines: a stream's type and its equation.
 use Prim.Native.Nat.{ℕ}
 use mathlib.Core.List.{List, [], _∷_}
-use mathlib.Core.Bool.{Bool, cond}
+use mathlib.Core.Bool.{cond}
 use lib.Dec.{eqb}
 use lib.ListN.{getD}
 use Rattle.node.specs.declared.layout.Record.{Record}

@@ -1,7 +1,7 @@
 -- The inputs of a node: "one signed 64-bit number an input, in record order".
-use Prim.Native.Nat.{ℕ, zero, suc, _+_}
+use Prim.Native.Nat.{ℕ, zero, suc}
 use mathlib.Core.List.{List}
-use mathlib.Core.Bool.{Bool, true, false, not, cond, _&&_}
+use mathlib.Core.Bool.{Bool, not, cond, _&&_}
 use lib.Dec.{eqb}
 use Rattle.answers.specs.declared.Found.{Found}
 use Rattle.answers.specs.Checks.{lowest}

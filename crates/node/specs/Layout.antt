@@ -1,9 +1,9 @@
 -- "Node file": where its fields stand. The rules speak of the trailer and the records, and of no byte.
 use Prim.Native.Nat.{ℕ, _+_, _-_, _*_}
 use mathlib.Core.List.{List}
-use mathlib.Core.Bool.{Bool, cond, _&&_}
+use mathlib.Core.Bool.{cond, _&&_}
 use lib.Dec.{leb, ltb}
-use lib.IntN.{ℤ, pos}
+use lib.IntN.{pos}
 use lib.ListN.{length}
 use Rattle.fields.specs.Fields.{byteAt, u16At, u32At, i32At}
 use Rattle.node.specs.declared.layout.Trailer.{Trailer}

@@ -1,8 +1,7 @@
 -- "Bytes before record 0 are a note; the note is handed back as a part of the caller's file, empty if 1 to 8 refuse it."
 use Prim.Native.Nat.{ℕ, _-_}
 use mathlib.Core.List.{List}
-use lib.ListN.{length, take, drop}
-use Rattle.answers.specs.declared.Place.{Place}
+use lib.ListN.{length, drop}
 use Rattle.answers.specs.Answer.{Answer, accepted, refused, NodeValues}
 use Rattle.node.specs.Layout.{sizeOf}
 use Rattle.node.specs.Verdict.{verdictOf}

@@ -1,9 +1,8 @@
 // The note: the bytes before record 0, handed back as a part of the caller's file.
 use crate::reading::verdict;
 use answers::NodeVerdict;
-ghost use Prim.Native.Nat.{_≤_};
 ghost use mathlib.Core.Path.{_≡_};
-ghost use lib.ListN.{length, take};
+ghost use lib.ListN.{take};
 ghost use Rattle.node.specs.Note.{noteLength};
 
 // How long the note is; 0 where rules 1 to 8 refuse the file.

@@ -1,12 +1,10 @@
 -- `fields::zeros_at` meets its contract. The loop's invariant: the bytes passed are zero.
 -- Assumes nothing.
-use mathlib.Core.Path.{_≡_, refl, sym, _∙_}
+use mathlib.Core.Path.{_≡_, sym}
 use mathlib.Core.Bool.{true}
 use Prim.Native.Nat.{_≤_, _-_}
 use native.Mathlib.Omega.{arith}
-use native.Mathlib.Numerals.{add-one}
 use borrow.Author.Needs.{needs}
-use borrow.Author.Tests.{eq-eqb, ne-eqb}
 use Rattle.fields.specs.Fields.{zerosAt}
 use Rattle.fields.proofs.ZeroBytes.{all-zero-more, one-not-zero}
 use Rattle.fields.proofs.zeros.zeros_at.Statement.{statement}

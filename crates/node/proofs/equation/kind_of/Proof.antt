@@ -1,6 +1,5 @@
 -- `node::kind_of` meets its contract: the type byte is 0, or it is not.
 -- Assumes nothing.
-use mathlib.Core.Path.{_≡_, sym, _∙_}
 use borrow.Author.Tests.{eq-eqb, ne-eqb}
 use Rattle.node.specs.Equations.{kindAt}
 use borrow.Author.Needs.{needs}

@@ -1,6 +1,6 @@
 -- `node::note` meets its contract: the note is no longer than the file.
 -- Assumes nothing.
-use mathlib.Core.Path.{sym, ap}
+use mathlib.Core.Path.{sym}
 use lib.Seq.{length-take-le}
 use Rattle.node.proofs.Notes.{note-fits}
 use borrow.Author.Needs.{needs}

@@ -1,12 +1,9 @@
 -- `node::note_length` meets its contract: an accepted file has room for its records and trailer.
 -- Assumes nothing.
 use mathlib.Core.Path.{_≡_, sym, _∙_, ap}
-use Prim.Native.Nat.{_≤_}
 use native.Mathlib.Omega.{arith}
 use denote.Ref.{now}
-use lib.ListN.{length}
-use Rattle.answers.specs.Answer.{NodeValues, accepted, nodeAnswer}
-use Rattle.node.specs.Layout.{sizeOf, streamsOf}
+use Rattle.answers.specs.Answer.{accepted, nodeAnswer}
 use Rattle.node.specs.Note.{noteLength, noteOf}
 use Rattle.node.specs.Verdict.{verdictOf}
 use borrow.Author.Needs.{needs}
