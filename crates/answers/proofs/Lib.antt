@@ -1,3 +1,5 @@
+pub mod Entries
+pub mod Every
 pub mod InARow
 pub mod Lowest
 pub mod Numbers

@@ -2,7 +2,7 @@
 -- together from tests in a row.
 use mathlib.Core.Path.{_≡_}
 use Prim.Native.Nat.{ℕ, zero, suc, _<_}
-use mathlib.Core.Bool.{Bool, true, false}
+use mathlib.Core.Bool.{Bool, true, false, _&&_}
 use Rattle.answers.specs.declared.Place.{Place}
 use Rattle.answers.specs.declared.Found.{Found}
 use Rattle.answers.specs.declared.Found.the-variants.{At, Nothing}
@@ -12,6 +12,11 @@ use Rattle.answers.specs.Answer.{Answer, refused}
 abbrev pub check : {A : Type 0} → Bool → (number : ℕ) → Place → Answer A → Answer A
 check true number place rest = rest
 check false number place rest = refused number place
+
+-- a test holds of each of the first n
+unfoldable pub every : (ℕ → Bool) → (n : ℕ) → Bool
+every ok zero = true
+every ok (suc n) = every ok n && ok n
 
 -- the lowest of the first n at which the test fails
 abbrev pub orAt : Found → Bool → ℕ → Found

@@ -1,2 +1,1 @@
 pub mod TwosComplement
-pub mod ZeroBytes

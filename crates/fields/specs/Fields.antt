@@ -5,6 +5,7 @@ use mathlib.Core.Bool.{Bool, true, cond, _&&_}
 use lib.Dec.{ltb, eqb}
 use lib.IntN.{ℤ, pos, _-ℤ_}
 use lib.ListN.{getD}
+use Rattle.answers.specs.Checks.{every}
 
 -- the byte at an offset; 0 past the end, where no caller reads
 abbrev pub byteAt : List ℕ → ℕ → ℕ
@@ -30,6 +31,5 @@ abbrev pub i64At : List ℕ → ℕ → ℤ
 i64At s at = twosComplement (2 ^ 63) (u64At s at)
 
 -- the count bytes from an offset on are zero
-unfoldable pub zerosAt : List ℕ → (at count : ℕ) → Bool
-zerosAt s at zero = true
-zerosAt s at (suc i) = zerosAt s at i && eqb (byteAt s (at + i)) 0
+abbrev pub zerosAt : List ℕ → (at count : ℕ) → Bool
+zerosAt s at = every (λ i. eqb (byteAt s (at + i)) 0)

@@ -1,4 +1,3 @@
-pub mod Entries
 pub mod FileRules
 pub mod InputCounts
 pub mod Notes

@@ -12,7 +12,7 @@ use Rattle.node.specs.declared.table.Row.{Row}
 use Rattle.node.specs.Equations.{decoded}
 use Rattle.node.specs.Reads.{Read, reads, yields}
 use Rattle.node.specs.Table.{rowOf}
-use Rattle.node.proofs.Entries.{each}
+use Rattle.answers.proofs.Entries.{each}
 
 -- an operand as a row has it
 abbrev pub reading : Wanted → (now : Bool) → ℕ → List Read

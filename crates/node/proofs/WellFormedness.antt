@@ -25,7 +25,7 @@ use Rattle.node.specs.Reads.{reads, yields, wantedKind, All, ReadOk, Con
 use Rattle.node.specs.Rules.{constantLimit, within, constantOk, unusedOk, shapeOk, placed, operandsOk, hasType, typesOk, propertyOk}
 use Rattle.node.specs.Table.{rowOf, readsIt}
 use Rattle.node.specs.Verdict.{verdictOf}
-use Rattle.node.proofs.Entries.{each}
+use Rattle.answers.proofs.Entries.{each}
 use Rattle.node.proofs.FileRules.{sizes}
 use Rattle.node.proofs.Outcomes.{accepted-keeps}
 use Rattle.node.proofs.TableRule.{reading, with-op, follows}

@@ -5,8 +5,9 @@ use mathlib.Core.Bool.{true}
 use Prim.Native.Nat.{_≤_, _-_}
 use native.Mathlib.Omega.{arith}
 use borrow.Author.Needs.{needs}
+use borrow.Author.Tests.{eq-eqb, ne-eqb}
 use Rattle.fields.specs.Fields.{zerosAt}
-use Rattle.fields.proofs.ZeroBytes.{all-zero-more, one-not-zero}
+use Rattle.answers.proofs.Every.{every-none, every-more, every-not}
 use Rattle.fields.proofs.zeros.zeros_at.Statement.{statement}
 use Rattle.fields.proofs.zeros.zeros_at.Tie as tie
 
@@ -17,8 +18,7 @@ abbrev μ-loop : tie.MeasureT-loop
 μ-loop s at count i₀ i = count - i
 
 loop-holds : tie.Need-loop-holds Inv-loop μ-loop
-unfolding zerosAt
-loop-holds c = search needs
+loop-holds c = (search needs, every-none _)
 
 add-if1 : tie.Need-add-if1 Inv-loop μ-loop
 add-if1 c = search needs
@@ -27,7 +27,7 @@ shared-slice-read-if1 : tie.Need-shared-slice-read-if1 Inv-loop μ-loop
 shared-slice-read-if1 c = search needs
 
 returns : tie.Need-returns Inv-loop μ-loop
-returns c = sym (one-not-zero _ _ _ _ (c .before .before .loop-test .taken) (c .if1 .taken))
+returns c = sym (every-not _ _ _ (c .before .before .loop-test .taken) (ne-eqb _ _ (c .if1 .taken)))
 
 add-i : tie.Need-add-i Inv-loop μ-loop
 add-i c = search needs
@@ -36,7 +36,7 @@ loop-less : tie.Need-loop-less Inv-loop μ-loop
 loop-less c = search needs
 
 loop-again : tie.Need-loop-again Inv-loop μ-loop
-loop-again c = (search needs, all-zero-more _ _ _ (c .before .before .before .loop .inv .1) (c .if1 .left))
+loop-again c = (search needs, every-more _ _ (c .before .before .before .loop .inv .1) (eq-eqb _ _ (c .if1 .left)))
 
 returns-2 : tie.Need-returns-2 Inv-loop μ-loop
 returns-2 c =

@@ -6,7 +6,7 @@ use lib.ListN.{List·getD-eq-default}
 use mir.Syntax.{w32}
 use mir.ValLaws.{toZ-ofZ}
 use Rattle.node.specs.Equations.{decoded, equations}
-use Rattle.node.proofs.Entries.{rest-le}
+use Rattle.answers.proofs.Entries.{rest-le}
 use Rattle.node.proofs.equation.decode.Statement.{statement}
 use Rattle.node.proofs.equation.decode.Tie as tie
 

@@ -3,7 +3,7 @@
 use mathlib.Core.Path.{sym}
 use lib.ListN.{List·getD-eq-default}
 use Rattle.node.specs.Table.{rows, rowOf}
-use Rattle.node.proofs.Entries.{entry-any}
+use Rattle.answers.proofs.Entries.{entry-any}
 use borrow.Author.Needs.{needs}
 use Rattle.node.proofs.table.row_of.Statement.{statement}
 use Rattle.node.proofs.table.row_of.Tie as tie

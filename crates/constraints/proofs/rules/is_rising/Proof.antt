@@ -1,0 +1,12 @@
+-- `constraints::is_rising` meets its contract: the comparisons in a row.
+-- Assumes nothing.
+use Rattle.constraints.specs.Rules.{rises}
+use Rattle.constraints.proofs.rules.is_rising.Statement.{statement}
+use Rattle.constraints.proofs.rules.is_rising.Tie as tie
+
+returns : tie.Need-returns
+unfolding rises
+returns c = cc
+
+pub is-rising-spec : {M : Type 1} → statement M
+is-rising-spec = tie.close (tie.spec returns)

@@ -1,0 +1,73 @@
+-- The conditions 11 to 15 of "Where each refusal is met", each as the test that a file passes.
+use Prim.Native.Nat.{ℕ, zero, suc, _+_, _-_}
+use mathlib.Core.List.{List}
+use mathlib.Core.Bool.{Bool, true, cond, not, _&&_, _||_}
+use lib.Dec.{leb, ltb, eqb}
+use lib.IntN.{ℤ, pos, negℤ}
+use lib.ListN.{getD}
+use Rattle.answers.specs.Checks.{every}
+use lib.Signed.{leZ}
+use Rattle.constraints.specs.declared.layout.Term.{Term}
+use Rattle.constraints.specs.declared.layout.Trailer.{Trailer}
+use Rattle.constraints.specs.Layout.{Constraint, sizeOf}
+
+-- 12: fixed bytes. "0x4B, 0x43, version 1 ..; two zero bytes"
+unfoldable pub fixedOk : Trailer → Bool
+fixedOk t = eqb (t .first) 0x4B && eqb (t .second) 0x43 && eqb (t .version) 1 && eqb (t .zeros) 0
+
+-- 13: k or constraint count. "depth k (1 to 8)", "counts of constraints (0 to 256)"
+unfoldable pub countsOk : Trailer → Bool
+countsOk t = leb 1 (t .depth) && leb (t .depth) 8 && leb (t .constraints) 256
+
+-- 14: distance, as 4
+unfoldable pub distanceOk : Trailer → (size : ℕ) → Bool
+distanceOk t size = eqb (t .distance) (sizeOf t) && leb (t .distance) size
+
+-- a node's streams, as a certificate's rules see them: 0 a bool, 1 an int, anything else none
+abbrev pub Sorts : Type 0
+Sorts = ℕ → ℕ
+
+-- those of a list, one a stream
+abbrev pub sortsOf : List ℕ → Sorts
+sortsOf l x = getD l x 2
+
+abbrev pub between : (low z high : ℤ) → Bool
+between low z high = leZ low z && leZ z high
+
+-- "bound (within ±100,000,000,000)"
+abbrev pub boundLimit : ℤ
+boundLimit = pos 100000000000
+
+-- "non-zero coefficients within ±1,000,000,000"
+abbrev pub coefficientLimit : ℤ
+coefficientLimit = pos 1000000000
+
+-- "Used terms name int streams .. and have non-zero coefficients within ±1,000,000,000"; "u8 offset (0 to k), zero byte"
+unfoldable pub usedOk : Sorts → (k : ℕ) → Term → Bool
+usedOk sorts k t =
+    eqb (sorts (t .stream)) 1
+    && leb (t .offset) k
+    && eqb (t .zero) 0
+    && between (negℤ coefficientLimit) (t .coefficient) coefficientLimit
+    && not (between (pos 0) (t .coefficient) (pos 0))
+
+-- "rise strictly by offset and then stream"
+unfoldable pub rises : Term → Term → Bool
+rises t u = ltb (t .offset) (u .offset) || eqb (t .offset) (u .offset) && ltb (t .stream) (u .stream)
+
+-- "Unused terms are zero."
+unfoldable pub unusedOk : Term → Bool
+unusedOk t = eqb (t .stream) 0 && eqb (t .offset) 0 && eqb (t .zero) 0 && between (pos 0) (t .coefficient) (pos 0)
+
+-- term j of a constraint that uses the first `count`
+unfoldable pub termOk : Sorts → (k count : ℕ) → (ℕ → Term) → (j : ℕ) → Bool
+termOk sorts k count term j =
+    cond (leb count j) (unusedOk (term j)) (usedOk sorts k (term j) && (eqb j 0 || rises (term (j - 1)) (term j)))
+
+-- 15: any constraint rule
+unfoldable pub constraintOk : Sorts → (k : ℕ) → Constraint → Bool
+constraintOk sorts k c =
+    leb (c .head .count) 8
+    && c .head .zeros
+    && between (negℤ boundLimit) (c .head .bound) boundLimit
+    && every (termOk sorts k (c .head .count) (c .term)) 8

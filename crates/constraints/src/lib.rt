@@ -1,0 +1,18 @@
+// Certificate files: where their fields stand, rules 11 to 15, and constraints as linear forms.
+mod layout;
+mod rules;
+
+pub use layout::ConstraintHead;
+pub use layout::LineHead;
+pub use layout::Term;
+pub use layout::Trailer;
+pub use layout::constraint_head;
+pub use layout::line_head;
+pub use layout::literal_at;
+pub use layout::multiplier_at;
+pub use layout::term_at;
+pub use layout::trailer_of;
+pub use rules::constraint_ok;
+pub use rules::counts_ok;
+pub use rules::distance_ok;
+pub use rules::fixed_ok;
