@@ -1,3 +1,4 @@
 pub mod Layout
 pub mod Linear
+pub mod Ready
 pub mod Rules

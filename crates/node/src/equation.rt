@@ -15,21 +15,21 @@ pub enum Kind {
 pub enum Equation {
     Input,
     Constant(i32),
-    Not(usize),
-    And(usize, usize),
-    Or(usize, usize),
-    Same(usize, usize),
-    Sum(usize, usize),
-    Difference(usize, usize),
-    Multiple(i32, usize),
-    AtMost(usize, usize),
-    Equal(usize, usize),
+    Not(u16),
+    And(u16, u16),
+    Or(u16, u16),
+    Same(u16, u16),
+    Sum(u16, u16),
+    Difference(u16, u16),
+    Multiple(i32, u16),
+    AtMost(u16, u16),
+    Equal(u16, u16),
     // If the third then the first, else the second.
-    If(usize, usize, usize),
+    If(u16, u16, u16),
     // a -> b
-    Arrow(usize, usize),
+    Arrow(u16, u16),
     // a -> pre b
-    FollowedBy(usize, usize),
+    FollowedBy(u16, u16),
 }
 
 // The equation of a record; past the table, an input.
@@ -37,9 +37,9 @@ pub fn decode(r: Record) -> Equation
     ensures { λ z. ⌜ z ≡ decoded r ⌝ }
 {
     let op = r.op;
-    let a = r.a as usize;
-    let b = r.b as usize;
-    let c = r.c as usize;
+    let a = r.a;
+    let b = r.b;
+    let c = r.c;
     match op {
         0 => Equation::Input,
         1 => Equation::Constant(r.k),

@@ -1,6 +1,5 @@
 -- `node::decode` meets its contract: in each arm the operator is that arm's number.
 -- Assumes nothing.
-use borrow.Author.Needs.{needs}
 use mathlib.Core.Path.{sym}
 use lib.ListN.{List·getD-eq-default}
 use mir.Syntax.{w32}
@@ -9,15 +8,6 @@ use Rattle.node.specs.Equations.{decoded, equations}
 use Rattle.answers.proofs.Entries.{rest-le}
 use Rattle.node.proofs.equation.decode.Statement.{statement}
 use Rattle.node.proofs.equation.decode.Tie as tie
-
-cast-a : tie.Need-cast-a
-cast-a c = search needs
-
-cast-b : tie.Need-cast-b
-cast-b c = search needs
-
-cast-c : tie.Need-cast-c
-cast-c c = search needs
 
 returns : tie.Need-returns
 unfolding decoded
@@ -77,15 +67,12 @@ returns-14 c = rw (c .match .keys14)
 
 returns-15 : tie.Need-returns-15
 unfolding decoded
-returns-15 c = sym (List·getD-eq-default (equations (c .before .before .before .before .args .r)) _ (rest-le 14 _ (c .match .rest)))
+returns-15 c = sym (List·getD-eq-default (equations (c .before .args .r)) _ (rest-le 14 _ (c .match .rest)))
 
 pub decode-spec : {M : Type 1} → statement M
 decode-spec =
     tie.close
     (tie.spec
-    cast-a
-    cast-b
-    cast-c
     returns
     returns-2
     returns-3

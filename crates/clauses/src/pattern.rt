@@ -1,0 +1,43 @@
+// The literals that a clause of an equation has, before they are looked up in a certificate.
+
+// A linear constraint of at most three variables: a·x + b·y + c·z is at most bound.
+pub struct Linear {
+    pub x: usize,
+    pub a: i64,
+    pub y: usize,
+    pub b: i64,
+    pub z: usize,
+    pub c: i64,
+    pub bound: i64,
+}
+
+// One literal of a clause.
+pub enum Pattern {
+    // A bool variable.
+    Yes(usize),
+    // Its negation.
+    No(usize),
+    // A constraint, unnegated.
+    Most(Linear),
+}
+
+// A clause of one to three literals; past the count the last one stands again.
+pub struct Clause {
+    pub count: usize,
+    pub first: Pattern,
+    pub second: Pattern,
+    pub third: Pattern,
+}
+
+// The clause of a number, where an equation has one.
+pub enum Named {
+    Is(Clause),
+    Missing,
+}
+
+// Where a window an equation stands: at its first offset as instant 0, at its first offset as any instant, or later.
+pub enum Place {
+    Opening,
+    Unsure,
+    Inner,
+}
