@@ -1,2 +1,3 @@
-pub mod Literals
 pub mod Clauses
+pub mod Literals
+pub mod Matching

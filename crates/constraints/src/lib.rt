@@ -16,3 +16,4 @@ pub use rules::constraint_ok;
 pub use rules::counts_ok;
 pub use rules::distance_ok;
 pub use rules::fixed_ok;
+pub use rules::sort_at;

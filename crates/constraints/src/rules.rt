@@ -36,7 +36,7 @@ pub fn distance_ok(t: Trailer, size: usize) -> bool
 }
 
 // What a stream is: 0 a bool, 1 an int, else none.
-fn sort_at(sorts: &[u8], x: usize) -> u8
+pub fn sort_at(sorts: &[u8], x: usize) -> u8
     ensures { λ r. ⌜ r ≡ sortsOf (now (sorts .entry)) x ⌝ }
 {
     if x < sorts.len() { sorts[x] } else { 2 }

@@ -1,0 +1,104 @@
+-- `certificate::join_ok` meets its contract: where both lines are lower ones of the part, they lie within the file.
+-- Assumes nothing.
+use mathlib.Core.Path.{_≡_, sym, _∙_, ap}
+use mathlib.Core.Bool.{true, _&&_}
+use Prim.Native.Nat.{_<_}
+use native.Mathlib.Omega.{arith}
+use borrow.Author.Tests.{ltb-true, not-true, not-false}
+use denote.Ref.{now}
+use lib.Dec.{leb, ltb}
+use Rattle.answers.proofs.Tests.{both-true}
+use Rattle.constraints.specs.declared.layout.LineHead.{LineHead}
+use Rattle.certificate.specs.Joins.{isLower, joins, joinOk}
+use Rattle.certificate.specs.Ready.{linesAt}
+use borrow.Author.Needs.{needs}
+use Rattle.certificate.proofs.joins.join_ok.Statement.{statement}
+use Rattle.certificate.proofs.joins.join_ok.Tie as tie
+
+mul-at : tie.Need-mul-at
+mul-at c = search needs
+
+add-at : tie.Need-add-at
+add-at c = search needs
+
+line-head-requires : tie.Need-line-head-requires
+line-head-requires c κs = search needs
+
+cast-p : tie.Need-cast-p
+cast-p c = search needs
+
+cast-q : tie.Need-cast-q
+cast-q c = search needs
+
+-- the test that was made is the definition's
+lower-is : (c : tie.After-struct-known2) → let a = c .before .before .before .before .args in let h = linesAt (now (a .file)) (a .lines) (a .i) .head in (isLower (a .from) (a .i) (h .p) && isLower (a .from) (a .i) (h .q)) ≡ (leb (a .from) (c .before .before .line-head .result .p) && ltb (c .before .before .line-head .result .p) (a .i) && (leb (a .from) (c .before .before .line-head .result .q) && ltb (c .before .before .line-head .result .q) (a .i)))
+lower-is c = rw (c .before .before .line-head .ensures)
+
+-- .. and says that both are lower lines
+passed : (c : tie.Else1) → let a = c .before .before .before .before .before .args in let h = c .before .before .before .line-head .result in ((leb (a .from) (h .p) && ltb (h .p) (a .i)) ≡ true) × ((leb (a .from) (h .q) && ltb (h .q) (a .i)) ≡ true)
+passed c =
+    let a = c .before .before .before .before .before .args in
+    let h = c .before .before .before .line-head .result in
+    both-true (leb (a .from) (h .p) && ltb (h .p) (a .i)) (leb (a .from) (h .q) && ltb (h .q) (a .i)) (not-false _ (c .if1 .left))
+
+p-lower : (c : tie.Else1) → c .before .before .before .line-head .result .p < c .before .before .before .before .before .args .i
+p-lower c = ltb-true _ _ (both-true (leb (c .before .before .before .before .before .args .from) (c .before .before .before .line-head .result .p)) _ (passed c .0) .1)
+
+q-lower : (c : tie.Else1) → c .before .before .before .line-head .result .q < c .before .before .before .before .before .args .i
+q-lower c = ltb-true _ _ (both-true (leb (c .before .before .before .before .before .args .from) (c .before .before .before .line-head .result .q)) _ (passed c .1) .1)
+
+returns : tie.Need-returns
+unfolding joinOk
+returns c = rw (lower-is (c .before) ∙ not-true _ (c .if1 .taken))
+
+mul-is-join : tie.Need-mul-is-join
+mul-is-join c = search needs
+
+add-is-join : tie.Need-add-is-join
+add-is-join c = search needs
+
+mul-is-join-2 : tie.Need-mul-is-join-2
+mul-is-join-2 c = search needs
+
+add-is-join-2 : tie.Need-add-is-join-2
+add-is-join-2 c = search needs
+
+is-join-requires : tie.Need-is-join-requires
+is-join-requires c κs =
+    let asked = c .before .before .before .before .before .pre in
+    let h = c .before .before .before .line-head .result in (
+      (omega (arith, asked .room, p-lower c), omega (arith, asked .room, q-lower c), omega (arith, asked .room)),
+      (
+        asked .counts (h .p) (omega (arith, p-lower c)),
+        asked .counts (h .q) (omega (arith, q-lower c)),
+        asked .counts (c .before .before .before .before .before .args .i) (omega arith),
+      ),
+    )
+
+returns-2 : tie.Need-returns-2
+unfolding joinOk
+returns-2 c =
+    let a = c .before .before .before .before .before .before .args in
+    let s = now (a .file) in
+    let at = a .lines in
+    c .is-join .ensures
+    ∙ rw (lower-is (c .before .before) ∙ not-false _ (c .before .if1 .left))
+    (ap (λ (h : LineHead). joins (linesAt s at (h .p)) (linesAt s at (h .q)) (h .r) (linesAt s at (a .i)))
+    (c .before .before .before .before .line-head .ensures))
+
+pub join-ok-spec : {M : Type 1} → statement M
+join-ok-spec =
+    tie.close
+    (tie.spec
+    mul-at
+    add-at
+    line-head-requires
+    cast-p
+    cast-q
+    returns
+    mul-is-join
+    add-is-join
+    mul-is-join-2
+    add-is-join-2
+    is-join-requires
+    returns-2)

@@ -1,0 +1,4 @@
+pub mod Joins
+pub mod Lines
+pub mod Ready
+pub mod Verdict

@@ -1,0 +1,129 @@
+-- The conditions 16 to 18 and 21 of "Where each refusal is met", and a line's whole rule.
+use Prim.Native.Nat.{ℕ, zero, suc, _+_, _-_, _*_}
+use mathlib.Core.Bool.{Bool, true, false, cond, not, _&&_, _||_}
+use lib.Dec.{leb, ltb, eqb}
+use Rattle.answers.specs.Checks.{every}
+use Rattle.node.specs.declared.equation.Kind.{Kind}
+use Rattle.node.specs.declared.equation.Equation.{Equation}
+use Rattle.constraints.specs.declared.layout.LineHead.{LineHead}
+use Rattle.constraints.specs.Layout.{Constraint, Line}
+use Rattle.constraints.specs.Linear.{variable}
+use Rattle.constraints.specs.Rules.{Sorts}
+use Rattle.clauses.specs.declared.pattern.Clause.{Clause}
+use Rattle.clauses.specs.declared.pattern.Named.{Named}
+use Rattle.clauses.specs.declared.pattern.Named.the-variants.{Is, Missing}
+use Rattle.clauses.specs.declared.pattern.Place.{Place}
+use Rattle.clauses.specs.declared.pattern.Place.the-variants.{Opening, Unsure, Inner}
+use Rattle.clauses.specs.Clauses.{clauses, numbered}
+use Rattle.clauses.specs.Literals.{positive, negative, atomOf, namesAtom}
+use Rattle.clauses.specs.Matching.{matchesOf}
+use Rattle.arithmetic.specs.Arithmetic.{arithmeticOk}
+use Rattle.certificate.specs.Joins.{joinOk}
+
+-- a line as the rules see it: what kind 4 uses of multipliers, all other kinds leave at zero
+abbrev pub multiplierOk : (kind multiplier : ℕ) → Bool
+multiplierOk kind m = cond (eqb kind 4) (leb 1 m && leb m 1000000) (eqb m 0)
+
+-- literal and multiplier j of a line: listed ones name an atom, the rest are zero
+unfoldable pub slotOk : Sorts → (k m kind count : ℕ) → (literal multiplier : ℕ → ℕ) → (j : ℕ) → Bool
+slotOk sorts k m kind count literal multiplier j =
+    cond (leb count j) (eqb (literal j) 0 && eqb (multiplier j) 0)
+    (namesAtom sorts k m (atomOf (literal j)) && multiplierOk kind (multiplier j))
+
+-- "What its kind and count don't use is zero": kind 1 and 3 use p, q and r, kind 2 uses q, kind 4 none
+unfoldable pub numbersOk : LineHead → Bool
+numbersOk h =
+    (eqb (h .kind) 1 || eqb (h .kind) 3 || eqb (h .p) 0)
+    && (not (eqb (h .kind) 4) || eqb (h .q) 0)
+    && (eqb (h .kind) 1 || eqb (h .kind) 3 || eqb (h .r) 0)
+
+-- 16: kind, count, listed literal naming no atom, kind 4 multiplier, unused field not 0
+unfoldable pub shapeOk : Sorts → (k m : ℕ) → Line → Bool
+shapeOk sorts k m line =
+    leb 1 (line .head .kind)
+    && leb (line .head .kind) 4
+    && leb (line .head .count) 12
+    && numbersOk (line .head)
+    && every (slotOk sorts k m (line .head .kind) (line .head .count) (line .literal) (line .multiplier)) 12
+
+-- what a part assumes of its window
+pub record Window : Type 0 where
+  -- the part's first line, and one past its last
+  pub from : ℕ
+  pub until : ℕ
+  -- its equations stand at the offsets below this one
+  pub offsets : ℕ
+  -- what its first offset is
+  pub opening : Place
+  -- what its property lines are
+  pub property : Line → Bool
+
+-- literal j is not-prop at offset j
+abbrev pub notPropertyAt : (prop : ℕ) → (ℕ → ℕ) → (j : ℕ) → Bool
+notPropertyAt prop literal j = eqb (literal j) (negative (variable j prop))
+
+-- "Base: q = 0 and not-prop at offsets 0 to k − 1, rising."
+unfoldable pub basePropertyOk : (k prop : ℕ) → Line → Bool
+basePropertyOk k prop line =
+    eqb (line .head .q) 0
+    && eqb (line .head .count) k
+    && every (notPropertyAt prop (line .literal)) k
+
+-- "Step: prop at q where q is below k; not-prop where q = k."
+unfoldable pub stepPropertyOk : (k prop : ℕ) → Line → Bool
+stepPropertyOk k prop line =
+    let q = line .head .q in
+    leb q k
+    && eqb (line .head .count) 1
+    && eqb (line .literal 0) (cond (eqb q k) (negative (variable q prop)) (positive (variable q prop)))
+
+-- the base: the instants 0 to k − 1
+abbrev pub baseWindow : (k prop base : ℕ) → Window
+baseWindow k prop base =
+    record { from = 0; until = base; offsets = k; opening = Opening; property = basePropertyOk k prop }
+
+-- the step: any k + 1 instants in a row
+abbrev pub stepWindow : (k prop base step : ℕ) → Window
+stepWindow k prop base step =
+    record { from = base; until = base + step; offsets = k + 1; opening = Unsure; property = stepPropertyOk k prop }
+
+-- where an offset of a window stands
+abbrev pub placeAt : Window → (offset : ℕ) → Place
+placeAt w offset = cond (eqb offset 0) (w .opening) Inner
+
+-- a line's literals are those of a clause, in its order
+abbrev pub literalsAre : (ℕ → Constraint) → (m : ℕ) → Line → Named → Bool
+literalsAre constraints m line Missing = false
+literalsAre constraints m line (Is c) =
+    eqb (line .head .count) (c .count)
+    && matchesOf constraints m (c .first) (line .literal 0)
+    && (leb (c .count) 1 || matchesOf constraints m (c .second) (line .literal 1))
+    && (leb (c .count) 2 || matchesOf constraints m (c .third) (line .literal 2))
+
+-- a node as lines see it
+pub record Streams : Type 0 where
+  pub count : ℕ
+  pub property : ℕ
+  pub kinds : ℕ → Kind
+  pub equations : ℕ → Equation
+
+-- 17: "clause r, counted from 0, of stream p at offset q (base: below k; step: up to k)"
+unfoldable pub equationOk : Streams → (ℕ → Constraint) → (m : ℕ) → Window → Line → Bool
+equationOk node constraints m w line =
+    let p = line .head .p in
+    let q = line .head .q in
+    ltb p (node .count)
+    && ltb q (w .offsets)
+    && literalsAre constraints m line
+    (numbered (clauses (node .kinds p) (node .equations p) (placeAt w q) (variable q) (variable (q - 1)) (variable q p)) (line .head .r))
+
+-- 17, 18, 19, 20: a line's kind
+unfoldable pub kindOk : Streams → (ℕ → Constraint) → (m : ℕ) → Window → (ℕ → Line) → (i : ℕ) → Bool
+kindOk node constraints m w lines i =
+    let kind = lines i .head .kind in
+    cond (eqb kind 1) (equationOk node constraints m w (lines i))
+    (cond (eqb kind 2) (w .property (lines i)) (cond (eqb kind 3) (joinOk lines (w .from) i) (arithmeticOk constraints (lines i))))
+
+-- 21: the part has some line without literals
+unfoldable pub hasEmpty : (ℕ → Line) → Window → Bool
+hasEmpty lines w = not (every (λ i. not (eqb (lines (w .from + i) .head .count) 0)) (w .until - w .from))

@@ -1,0 +1,5 @@
+// The certificate checker.
+mod joins;
+mod property;
+mod search;
+mod shape;

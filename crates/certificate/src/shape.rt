@@ -1,0 +1,88 @@
+// Rule 16: the shape of a line.
+use clauses::Literal;
+use constraints::LineHead;
+use constraints::line_head;
+use constraints::literal_at;
+use constraints::multiplier_at;
+use constraints::sort_at;
+ghost use Prim.Native.Nat.{_+_, _<_, _≤_};
+ghost use mathlib.Core.Path.{_≡_};
+ghost use lib.ListN.{length};
+ghost use Rattle.answers.specs.Checks.{every};
+ghost use Rattle.constraints.specs.Layout.{lineAt, literalAt, multiplierAt};
+ghost use Rattle.constraints.specs.Rules.{sortsOf};
+ghost use Rattle.clauses.specs.Literals.{namesAtom};
+ghost use Rattle.certificate.specs.Lines.{multiplierOk, slotOk, numbersOk, shapeOk};
+
+// The number names an atom, at depth k with m constraints.
+fn names_atom(sorts: &[u8], k: u8, m: u16, atom: usize) -> bool
+    ensures { λ r. ⌜ r ≡ namesAtom (sortsOf (now (sorts .entry))) k m atom ⌝ }
+{
+    if 576 <= atom {
+        return atom - 576 < (m as usize);
+    }
+    let sort = sort_at(sorts, atom % 64);
+    (atom / 64 <= (k as usize)) & (sort == 0)
+}
+
+// A listed literal's multiplier: from 1 to 1,000,000 in an arithmetic line, 0 in any other.
+fn is_multiplier(kind: u8, multiplier: u32) -> bool
+    ensures { λ r. ⌜ r ≡ multiplierOk kind multiplier ⌝ }
+{
+    if kind == 4 {
+        (1 <= multiplier) & (multiplier <= 1000000)
+    } else {
+        multiplier == 0
+    }
+}
+
+// Literal and multiplier j of the line at an offset, of this kind and count.
+fn is_slot(file: &[u8], at: usize, h: LineHead, sorts: &[u8], k: u8, m: u16, j: usize) -> bool
+    requires { ⌜ (at + 80 ≤ length (now file)) × (j < 12) ⌝ }
+    ensures { λ r. ⌜ r ≡ slotOk (sortsOf (now (sorts .entry))) k m (h .kind) (h .count) (literalAt (now (file .entry)) at) (multiplierAt (now (file .entry)) at) j ⌝ }
+{
+    let literal = literal_at(file, at, j);
+    let multiplier = multiplier_at(file, at, j);
+    if (h.count as usize) <= j {
+        return (literal == 0) & (multiplier == 0);
+    }
+    let atom = Literal(literal).atom();
+    names_atom(sorts, k, m, atom) & is_multiplier(h.kind, multiplier)
+}
+
+// Each of the twelve literals and multipliers.
+fn are_slots(file: &[u8], at: usize, h: LineHead, sorts: &[u8], k: u8, m: u16) -> bool
+    requires { ⌜ at + 80 ≤ length (now file) ⌝ }
+    ensures { λ r. ⌜ r ≡ every (slotOk (sortsOf (now (sorts .entry))) k m (h .kind) (h .count) (literalAt (now (file .entry)) at) (multiplierAt (now (file .entry)) at)) 12 ⌝ }
+{
+    let mut j = 0;
+    while j < 12 {
+        if !is_slot(file, at, h, sorts, k, m, j) {
+            return false;
+        }
+        j += 1;
+    }
+    true
+}
+
+// What the kind does not use of p, q and r is zero.
+fn are_numbers(h: LineHead) -> bool
+    ensures { λ r. ⌜ r ≡ numbersOk h ⌝ }
+{
+    ((h.kind == 1) | (h.kind == 3) | (h.p == 0))
+        & (!(h.kind == 4) | (h.q == 0))
+        & ((h.kind == 1) | (h.kind == 3) | (h.r == 0))
+}
+
+// Rule 16, of the line at an offset.
+pub fn shape_ok(file: &[u8], at: usize, sorts: &[u8], k: u8, m: u16) -> bool
+    requires { ⌜ at + 80 ≤ length (now file) ⌝ }
+    ensures { λ r. ⌜ r ≡ shapeOk (sortsOf (now (sorts .entry))) k m (lineAt (now (file .entry)) at) ⌝ }
+{
+    let h = line_head(file, at);
+    (1 <= h.kind)
+        & (h.kind <= 4)
+        & (h.count <= 12)
+        & are_numbers(h)
+        & are_slots(file, at, h, sorts, k, m)
+}

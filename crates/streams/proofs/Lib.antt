@@ -1,0 +1,11 @@
+pub mod AcceptedNodes
+pub mod Agreement
+pub mod Evaluations
+pub mod InputNumbers
+pub mod Keeping
+pub mod Numbers
+pub mod Orders
+pub mod Reading
+pub mod Results
+pub mod StarredCases
+pub mod Types

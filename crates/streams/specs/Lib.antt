@@ -1,0 +1,9 @@
+pub mod Evaluation
+pub mod Files
+pub mod Meaning
+pub mod Nodes
+pub mod Solutions
+pub mod Starred
+pub mod Theorems
+pub mod Typing
+pub mod Values

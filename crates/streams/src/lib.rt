@@ -1,0 +1,45 @@
+// The value of one equation over 64-bit numbers: that of its operator's row, where 64 signed bits hold it.
+use integers::Checked;
+use node::Equation;
+use operators::at_most;
+use operators::both;
+use operators::chosen;
+use operators::either;
+use operators::equal;
+use operators::first_or_later;
+use operators::minus;
+use operators::negation;
+use operators::plus;
+use operators::same;
+use operators::times;
+use operators::whole;
+ghost use mathlib.Core.Path.{_≡_};
+ghost use Rattle.integers.specs.Range.{checkedOf};
+ghost use Rattle.streams.specs.Meaning.{meaning};
+ghost use Rattle.streams.specs.Values.{valuesIn};
+
+mod operands;
+mod operators;
+
+// The value of a stream by its equation: `given` is its input, `past` and `present` are the values of all streams one instant
+// before and at this instant. What they do not hold counts as 0.
+pub fn value(e: Equation, given: i64, first: bool, past: &[i64], present: &[i64]) -> Checked
+    ensures { λ r. ⌜ r ≡ checkedOf (meaning e given first (valuesIn (now (past .entry))) (valuesIn (now (present .entry)))) ⌝ }
+{
+    match e {
+        Equation::Input => whole(given),
+        Equation::Constant(k) => whole(k as i64),
+        Equation::Not(a) => negation(present, a),
+        Equation::And(a, b) => both(present, a, b),
+        Equation::Or(a, b) => either(present, a, b),
+        Equation::Same(a, b) => same(present, a, b),
+        Equation::Sum(a, b) => plus(present, a, b),
+        Equation::Difference(a, b) => minus(present, a, b),
+        Equation::Multiple(k, a) => times(k as i64, present, a),
+        Equation::AtMost(a, b) => at_most(present, a, b),
+        Equation::Equal(a, b) => equal(present, a, b),
+        Equation::If(a, b, c) => chosen(present, a, b, c),
+        Equation::Arrow(a, b) => first_or_later(first, present, a, present, b),
+        Equation::FollowedBy(a, b) => first_or_later(first, present, a, past, b),
+    }
+}
