@@ -1,10 +1,14 @@
+-- `certificate::step_property_ok` meets its contract: at the last offset the property is negated, before it is not.
+-- Assumes nothing.
+use mathlib.Core.Path.{_≡_, sym, _∙_, ap}
+use borrow.Author.Tests.{eq-eqb, ne-eqb}
+use denote.Ref.{now}
+use Rattle.constraints.specs.declared.layout.LineHead.{LineHead}
+use Rattle.constraints.specs.Layout.{lineHeadAt}
+use Rattle.certificate.specs.Lines.{stepPropertyOk}
 use borrow.Author.Needs.{needs}
 use Rattle.certificate.proofs.property.step_property_ok.Statement.{statement}
 use Rattle.certificate.proofs.property.step_property_ok.Tie as tie
-use Rattle.certificate.proofs.property.step_property_ok.Reads as reads
-use Rattle.certificate.proofs.property.step_property_ok.Lts as lts
-use Rattle.constraints.proofs.line_head.Reads as line-head-reads
-use Rattle.constraints.proofs.literal_at.Reads as literal-at-reads
 
 line-head-requires : tie.Need-line-head-requires
 line-head-requires c κs = search needs
@@ -30,14 +34,26 @@ mul-result c = search needs
 add-result : tie.Need-add-result
 add-result c = search needs
 
+q-is : (c : tie.After-literal-at) → let a = c .before .before .before .before .args in lineHeadAt (now (a .file)) (a .at) .q ≡ c .before .before .line-head .result .q
+q-is c = ap (λ (h : LineHead). h .q) (sym (c .before .before .line-head .ensures))
+
 returns : tie.Need-returns
-returns c = ?
+unfolding stepPropertyOk
+returns c =
+    let read = c .before .before in
+    rw
+    (eq-eqb _ _ (q-is read ∙ c .before .if1 .taken), read .before .before .line-head .ensures, read .literal-at .ensures)
 
 mul-result-2 : tie.Need-mul-result-2
 mul-result-2 c = search needs
 
 returns-2 : tie.Need-returns-2
-returns-2 c = ?
+unfolding stepPropertyOk
+returns-2 c =
+    let read = c .before .before in
+    rw
+    (ne-eqb _ _ (λ e. c .before .if1 .left (sym (q-is read) ∙ e)), read .before .before .line-head .ensures,
+    read .literal-at .ensures)
 
 pub step-property-ok-spec : {M : Type 1} → statement M
 step-property-ok-spec =
