@@ -6,6 +6,8 @@ use Rattle.answers.specs.declared.Rule.{Rule}
 use Rattle.answers.specs.declared.Rule.the-variants.{NodeLength, NodeFixedBytes, NodeCounts, NodeDistance, RecordShape, RecordOperands, RecordTypes, PropertyType, CertificateLength, CertificateFixedBytes, CertificateCounts, CertificateDistance, ConstraintShape, LineShape, EquationLine, PropertyLine, JoinLine, ArithmeticLine, NoEmptyLine, NoNode, InputCount, SliceLength, BoolInput, OutsideRange}
 use Rattle.answers.specs.declared.NodeVerdict.{NodeVerdict}
 use Rattle.answers.specs.declared.NodeVerdict.the-variants.{Accepted, Refused}
+use Rattle.answers.specs.declared.CertificateVerdict.{CertificateVerdict}
+use Rattle.answers.specs.declared.CertificateVerdict.the-variants.{Accepted as Proved, Refused as NotProved}
 
 -- "An answer is accepted .., or refused with a number and a place": A is what an accepted one carries
 pub data Answer (A : Type 0) : Type 0 where
@@ -47,3 +49,13 @@ pub record NodeValues : Type 0 where
 abbrev pub nodeAnswer : NodeVerdict → Answer NodeValues
 nodeAnswer (Accepted n p) = accepted (record { streams = n; property = p })
 nodeAnswer (Refused rule place) = refused (numberOf rule) place
+
+-- what an accepted certificate's answer carries: "its depth and both line counts, as the trailer has them"
+pub record CertificateValues : Type 0 where
+  pub depth : ℕ
+  pub base : ℕ
+  pub step : ℕ
+
+abbrev pub certificateAnswer : CertificateVerdict → Answer CertificateValues
+certificateAnswer (Proved k b s) = accepted (record { depth = k; base = b; step = s })
+certificateAnswer (NotProved rule place) = refused (numberOf rule) place

@@ -51,6 +51,17 @@ pub enum NodeVerdict {
     Refused(Rule, Place),
 }
 
+// The verdict on a certificate: accepted with its depth and its line counts, as its trailer has them, or the first rule that is
+// broken and where.
+pub enum CertificateVerdict {
+    Accepted {
+        depth: usize,
+        base: usize,
+        step: usize,
+    },
+    Refused(Rule, Place),
+}
+
 // What a search over records, constraints or streams finds: the lowest at fault, or nothing.
 pub enum Found {
     At(usize),

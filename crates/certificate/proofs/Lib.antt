@@ -1,1 +1,2 @@
+pub mod SortList
 pub mod Standing

@@ -1,4 +1,5 @@
 pub mod Joins
 pub mod Lines
 pub mod Ready
+pub mod Sorts
 pub mod Verdict

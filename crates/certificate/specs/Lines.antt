@@ -124,6 +124,10 @@ kindOk node constraints m w lines i =
     cond (eqb kind 1) (equationOk node constraints m w (lines i))
     (cond (eqb kind 2) (w .property (lines i)) (cond (eqb kind 3) (joinOk lines (w .from) i) (arithmeticOk constraints (lines i))))
 
+-- line i of those from `from` on has literals
+abbrev pub hasLiterals : (ℕ → Line) → (from i : ℕ) → Bool
+hasLiterals lines from i = not (eqb (lines (from + i) .head .count) 0)
+
 -- 21: the part has some line without literals
-unfoldable pub hasEmpty : (ℕ → Line) → Window → Bool
-hasEmpty lines w = not (every (λ i. not (eqb (lines (w .from + i) .head .count) 0)) (w .until - w .from))
+abbrev pub hasEmpty : (ℕ → Line) → Window → Bool
+hasEmpty lines w = not (every (hasLiterals lines (w .from)) (w .until - w .from))

@@ -8,25 +8,20 @@ use Rattle.answers.specs.declared.Found.{Found}
 use Rattle.answers.specs.declared.Found.the-variants.{At, Nothing}
 use Rattle.answers.specs.declared.Place.{Place}
 use Rattle.answers.specs.declared.Place.the-variants.{File, Constraint as AtConstraint, Line as AtLine, Base, Step}
-use Rattle.answers.specs.Answer.{Answer, accepted, refused, NodeValues}
+use Rattle.answers.specs.Answer.{Answer, accepted, refused, NodeValues, CertificateValues}
 use Rattle.answers.specs.Checks.{check, checkAll, lowest}
 use Rattle.node.specs.Equations.{kindAt, equationAt}
-use Rattle.node.specs.Layout.{streamsOf, propertyOf, typeOf}
+use Rattle.node.specs.Layout.{streamsOf, propertyOf}
 use Rattle.node.specs.Rules.{lengthOk}
 use Rattle.node.specs.Verdict.{verdictOf as nodeVerdict}
 use Rattle.constraints.specs.Layout.{trailerOf, constraintOf, lineOf}
 use Rattle.constraints.specs.Rules.{Sorts, fixedOk, countsOk, distanceOk, constraintOk}
+use Rattle.certificate.specs.Sorts.{sortsBelow}
 use Rattle.certificate.specs.Lines.{Streams, Window, baseWindow, stepWindow, shapeOk, kindOk, hasEmpty}
-
--- what an accepted certificate's answer carries: "its depth and both line counts, as the trailer has them"
-pub record CertificateValues : Type 0 where
-  pub depth : ℕ
-  pub base : ℕ
-  pub step : ℕ
 
 -- the streams of a node: 0 a bool, 1 an int, 2 none
 abbrev pub sortsOfNode : List ℕ → Sorts
-sortsOfNode node x = cond (ltb x (streamsOf node)) (typeOf node x) 2
+sortsOfNode node = sortsBelow node (streamsOf node)
 
 abbrev pub streamsOfNode : List ℕ → Streams
 streamsOfNode node =

@@ -1,0 +1,25 @@
+// Rule 21: each part has some line without literals.
+use constraints::line_head;
+ghost use Prim.Native.Nat.{_+_, _*_, _≤_};
+ghost use mathlib.Core.Path.{_≡_};
+ghost use mathlib.Core.Bool.{not};
+ghost use lib.ListN.{length};
+ghost use Rattle.answers.specs.Checks.{every};
+ghost use Rattle.certificate.specs.Lines.{hasLiterals};
+ghost use Rattle.certificate.specs.Ready.{linesAt};
+
+// Whether one of the n lines from `from` on has no literal, where line 0 stands at an offset.
+pub fn has_empty(file: &[u8], lines: usize, from: usize, n: usize) -> bool
+    requires { ⌜ lines + 80 * (from + n) ≤ length (now file) ⌝ }
+    ensures { λ r. ⌜ r ≡ not (every (hasLiterals (linesAt (now (file .entry)) lines) from) n) ⌝ }
+{
+    let mut i = 0;
+    while i < n {
+        let head = line_head(file, lines + 80 * (from + i));
+        if head.count == 0 {
+            return true;
+        }
+        i += 1;
+    }
+    false
+}
