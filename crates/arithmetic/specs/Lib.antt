@@ -1,1 +1,3 @@
 pub mod Arithmetic
+pub mod Sums
+pub mod Checkable

@@ -1,9 +1,32 @@
 // Arithmetic lines: the opposites of their literals, times multipliers, add up to a contradiction.
-ghost use mathlib.Core.Path.{_≡_};
+mod sums;
+mod terms;
 
-// The number of variables of a window: 64 streams at nine offsets.
-pub fn variables() -> usize
-    ensures { λ r. ⌜ r ≡ 576 ⌝ }
+use crate::sums::are_constraints;
+use crate::sums::are_zero;
+use crate::sums::bound_of;
+use crate::sums::sums_of;
+use constraints::line_head;
+ghost use mathlib.Core.Path.{_≡_};
+ghost use Rattle.constraints.specs.Layout.{lineAt};
+ghost use Rattle.arithmetic.specs.Arithmetic.{arithmeticOk};
+ghost use Rattle.arithmetic.specs.Sums.{constraintsFrom};
+ghost use Rattle.arithmetic.specs.Checkable.{Checkable};
+
+// Rule 20, of the line at an offset of a file whose constraints start at another.
+pub fn arithmetic_ok(file: &[u8], start: usize, at: usize) -> bool
+    requires { ⌜ Checkable (now file) start at ⌝ }
+    ensures { λ r. ⌜ r ≡ arithmeticOk (constraintsFrom (now (file .entry)) start) (lineAt (now (file .entry)) at) ⌝ }
 {
-    576
+    let head = line_head(file, at);
+    let count = head.count as usize;
+    if count < 1 {
+        return false;
+    }
+    if !are_constraints(file, at, count) {
+        return false;
+    }
+    let sums = sums_of(file, start, at, count);
+    let bound = bound_of(file, start, at, count);
+    are_zero(sums) & (bound <= -1)
 }

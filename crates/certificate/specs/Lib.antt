@@ -1,3 +1,4 @@
+pub mod Checking
 pub mod Joins
 pub mod Lines
 pub mod Ready

@@ -27,12 +27,18 @@ abbrev pub streamsOfNode : List ℕ → Streams
 streamsOfNode node =
     record { count = streamsOf node; property = propertyOf node; kinds = kindAt node; equations = equationAt node }
 
--- the part that line i stands in
-abbrev pub windowOf : (node cert : List ℕ) → (i : ℕ) → Window
-windowOf node cert i =
+-- the part that line i stands in, for a property stream
+abbrev pub partOf : (cert : List ℕ) → (property i : ℕ) → Window
+partOf cert property i =
     let t = trailerOf cert in
-    cond (ltb i (t .base)) (baseWindow (t .depth) (propertyOf node) (t .base))
-    (stepWindow (t .depth) (propertyOf node) (t .base) (t .step))
+    cond (ltb i (t .base)) (baseWindow (t .depth) property (t .base)) (stepWindow (t .depth) property (t .base) (t .step))
+
+abbrev pub windowOf : (node cert : List ℕ) → (i : ℕ) → Window
+windowOf node cert i = partOf cert (propertyOf node) i
+
+-- the first line of that part
+abbrev pub firstLine : (cert : List ℕ) → (i : ℕ) → ℕ
+firstLine cert i = partOf cert 0 i .from
 
 unfoldable pub shapePasses : (node cert : List ℕ) → (i : ℕ) → Bool
 shapePasses node cert i =

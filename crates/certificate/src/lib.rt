@@ -1,5 +1,6 @@
 // The certificate checker.
 mod joins;
+mod lines;
 mod parts;
 mod property;
 mod search;

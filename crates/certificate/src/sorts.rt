@@ -1,6 +1,6 @@
 // The streams of a node, as the rules of a certificate see them.
-use node::kind_of;
 use node::Kind;
+use node::kind_of;
 ghost use Prim.Native.Nat.{ℕ, _≤_};
 ghost use mathlib.Core.Path.{_≡_};
 ghost use lib.ListN.{length};

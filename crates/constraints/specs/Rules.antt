@@ -1,5 +1,5 @@
 -- The conditions 11 to 15 of "Where each refusal is met", each as the test that a file passes.
-use Prim.Native.Nat.{ℕ, zero, suc, _+_, _-_}
+use Prim.Native.Nat.{ℕ, zero, suc, _+_, _-_, _*_}
 use mathlib.Core.List.{List}
 use mathlib.Core.Bool.{Bool, true, cond, not, _&&_, _||_}
 use lib.Dec.{leb, ltb, eqb}
@@ -9,7 +9,7 @@ use Rattle.answers.specs.Checks.{every}
 use lib.Signed.{leZ}
 use Rattle.constraints.specs.declared.layout.Term.{Term}
 use Rattle.constraints.specs.declared.layout.Trailer.{Trailer}
-use Rattle.constraints.specs.Layout.{Constraint, sizeOf}
+use Rattle.constraints.specs.Layout.{Constraint, constraintAt, sizeOf}
 
 -- 12: fixed bytes. "0x4B, 0x43, version 1 ..; two zero bytes"
 unfoldable pub fixedOk : Trailer → Bool
@@ -71,3 +71,7 @@ constraintOk sorts k c =
     && c .head .zeros
     && between (negℤ boundLimit) (c .head .bound) boundLimit
     && every (termOk sorts k (c .head .count) (c .term)) 8
+
+-- constraint i of those from an offset on keeps its rules
+abbrev pub constraintPasses : Sorts → (k : ℕ) → List ℕ → (start i : ℕ) → Bool
+constraintPasses sorts k s start i = constraintOk sorts k (constraintAt s (start + 80 * i))

@@ -1,6 +1,7 @@
 // Certificate files: where their fields stand, rules 11 to 15, and constraints as linear forms.
 mod layout;
 mod rules;
+mod search;
 
 pub use layout::ConstraintHead;
 pub use layout::LineHead;
@@ -17,3 +18,4 @@ pub use rules::counts_ok;
 pub use rules::distance_ok;
 pub use rules::fixed_ok;
 pub use rules::sort_at;
+pub use search::first_bad;

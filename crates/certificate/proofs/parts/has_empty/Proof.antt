@@ -49,10 +49,11 @@ loop-less : tie.Need-loop-less Inv-loop μ-loop
 loop-less c = search needs
 
 loop-again : tie.Need-loop-again Inv-loop μ-loop
-loop-again c =
-    (search needs,
-    every-more _ _ (c .before .before .before .before .loop .inv .1)
-    (ap not (ne-eqb _ _ (λ e. c .if1 .left (ap (λ (h : LineHead). h .count) (c .before .before .line-head .ensures) ∙ e)))))
+loop-again c = (
+  search needs,
+  every-more _ _ (c .before .before .before .before .loop .inv .1)
+      (ap not (ne-eqb _ _ (λ e. c .if1 .left (ap (λ (h : LineHead). h .count) (c .before .before .line-head .ensures) ∙ e)))),
+)
 
 returns-2 : tie.Need-returns-2 Inv-loop μ-loop
 returns-2 c =

@@ -53,9 +53,10 @@ loop-less : tie.Need-loop-less Inv-loop μ-loop
 loop-less c = search needs
 
 loop-again : tie.Need-loop-again Inv-loop μ-loop
-loop-again c =
-    (search needs,
-    every-more _ _ (c .before .before .before .loop .inv .1) (eq-eqb _ _ (sym (c .before .literal-at .ensures) ∙ c .if1 .left)))
+loop-again c = (
+  search needs,
+  every-more _ _ (c .before .before .before .loop .inv .1) (eq-eqb _ _ (sym (c .before .literal-at .ensures) ∙ c .if1 .left)),
+)
 
 returns-2 : tie.Need-returns-2 Inv-loop μ-loop
 returns-2 c =

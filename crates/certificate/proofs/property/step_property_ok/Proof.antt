@@ -51,9 +51,11 @@ returns-2 : tie.Need-returns-2
 unfolding stepPropertyOk
 returns-2 c =
     let read = c .before .before in
-    rw
-    (ne-eqb _ _ (λ e. c .before .if1 .left (sym (q-is read) ∙ e)), read .before .before .line-head .ensures,
-    read .literal-at .ensures)
+    rw (
+      ne-eqb _ _ (λ e. c .before .if1 .left (sym (q-is read) ∙ e)),
+      read .before .before .line-head .ensures,
+      read .literal-at .ensures,
+    )
 
 pub step-property-ok-spec : {M : Type 1} → statement M
 step-property-ok-spec =

@@ -40,9 +40,11 @@ loop-again : tie.Need-loop-again Inv-loop μ-loop
 loop-again c =
     let at = c .before .before .before in
     let inv = at .loop .inv in
-    let within : at .loop .i < length (at .loop .sorts) = omega (arith, c .before .before .loop-test .taken, inv .1, at .before .before .pre) in
-    (search needs, simp length-set (inv .1),
-    sorts-turn (now (at .before .before .args .file)) (at .loop .sorts) (at .loop .i) (c .sort-of .result) within (c .sort-of .ensures ∙ ap sortOf (c .before .kind-of .ensures)) (inv .2))
+    let within : at .loop .i < length (at .loop .sorts) = omega (arith, c .before .before .loop-test .taken, inv .1, at .before .before .pre) in (
+      search needs,
+      simp length-set (inv .1),
+      sorts-turn (now (at .before .before .args .file)) (at .loop .sorts) (at .loop .i) (c .sort-of .result) within (c .sort-of .ensures ∙ ap sortOf (c .before .kind-of .ensures)) (inv .2),
+    )
 
 returns : tie.Need-returns Inv-loop μ-loop
 returns c =

@@ -1,0 +1,4 @@
+pub mod Words
+pub mod Adding
+pub mod Turns
+pub mod Deciding

@@ -1,0 +1,39 @@
+-- The sums of a line as an array holds them: one entry a variable.
+use Prim.Native.Nat.{ℕ, _+_, _*_}
+use mathlib.Core.List.{List, [], _∷_}
+use mathlib.Core.Bool.{cond}
+use lib.IntN.{ℤ, pos, negℤ, _+ℤ_, _-ℤ_, _*ℤ_}
+use lib.ListN.{getD, set, replicate}
+use Rattle.constraints.specs.Layout.{Constraint, Line, constraintAt, literalAt}
+use Rattle.constraints.specs.Linear.{Form}
+use Rattle.clauses.specs.Literals.{atomOf, isNegated, constraintNumber}
+use Rattle.arithmetic.specs.Arithmetic.{sumOf}
+
+-- a number added at a variable
+abbrev pub addAt : List ℤ → (x : ℕ) → ℤ → List ℤ
+addAt sums x z = set sums x (getD sums x (pos 0) +ℤ z)
+
+-- a form's monomials added, the last first
+unfoldable pub addForm : List ℤ → Form → List ℤ
+addForm sums [] = sums
+addForm sums (m ∷ ms) = addAt (addForm sums ms) (m .of) (m .times)
+
+-- the coefficients of the first n literals' sum
+abbrev pub sumsOf : (ℕ → Constraint) → Line → (n : ℕ) → List ℤ
+sumsOf constraints line n = addForm (replicate 576 (pos 0)) (sumOf constraints line n .form)
+
+-- the constraints of a file whose first one stands at `start`
+abbrev pub constraintsFrom : List ℕ → (start : ℕ) → ℕ → Constraint
+constraintsFrom s start i = constraintAt s (start + 80 * i)
+
+-- where the constraint stands that literal j of the line at `at` is on
+abbrev pub placeOf : List ℕ → (start at j : ℕ) → ℕ
+placeOf s start at j = start + 80 * constraintNumber (atomOf (literalAt s at j))
+
+-- what the constraint's own coefficients are multiplied by: the multiplier, negated where the opposite is the negation
+unfoldable pub factorOf : (literal multiplier : ℕ) → ℤ
+factorOf l m = cond (isNegated l) (pos m) (negℤ (pos m))
+
+-- the bound of the opposite of a literal on a constraint of a bound
+unfoldable pub oppositeBound : (literal : ℕ) → ℤ → ℤ
+oppositeBound l bound = cond (isNegated l) bound (negℤ bound -ℤ pos 1)

@@ -1,0 +1,82 @@
+// The literals of an arithmetic line one after another: all on constraints, and their sums.
+use crate::terms::add_terms;
+use crate::terms::bound_at;
+use crate::terms::factor_at;
+use crate::terms::place_of;
+use clauses::Literal;
+use constraints::literal_at;
+ghost use Prim.Native.Nat.{ℕ, _+_, _<_, _≤_};
+ghost use mathlib.Core.Path.{_≡_};
+ghost use lib.IntN.{pos};
+ghost use lib.ListN.{length, getD};
+ghost use Rattle.answers.specs.Checks.{every};
+ghost use Rattle.constraints.specs.Layout.{lineAt, literalAt};
+ghost use Rattle.constraints.specs.Linear.{sameZ};
+ghost use Rattle.clauses.specs.Literals.{atomOf, isConstraint};
+ghost use Rattle.arithmetic.specs.Arithmetic.{sumOf};
+ghost use Rattle.arithmetic.specs.Sums.{constraintsFrom, sumsOf};
+ghost use Rattle.arithmetic.specs.Checkable.{Usable};
+
+// Each of the first `count` literals is on a constraint.
+pub fn are_constraints(file: &[u8], at: usize, count: usize) -> bool
+    requires { ⌜ (at + 80 ≤ length (now file)) × (count ≤ 12) ⌝ }
+    ensures { λ r. ⌜ r ≡ every (λ j. isConstraint (atomOf (literalAt (now (file .entry)) at j))) count ⌝ }
+{
+    let mut j = 0;
+    while j < count {
+        let literal = Literal(literal_at(file, at, j));
+        if literal.atom() < 576 {
+            return false;
+        }
+        j += 1;
+    }
+    true
+}
+
+// The opposites of the first `count` literals, times their multipliers, added up: at each variable.
+pub fn sums_of(file: &[u8], start: usize, at: usize, count: usize) -> [i64; 576]
+    requires { ⌜ count ≤ 12 ⌝ }
+    requires { ⌜ ((j : ℕ) → j < count → Usable (now file) start at j) ⌝ }
+    ensures { λ r. ⌜ r ≡ sumsOf (constraintsFrom (now (file .entry)) start) (lineAt (now (file .entry)) at) count ⌝ }
+{
+    let mut sums = [0i64; 576];
+    let mut j = 0;
+    while j < count {
+        let place = place_of(file, start, at, j);
+        let factor = factor_at(file, at, j);
+        let next = add_terms(sums, file, place, factor);
+        sums = next;
+        j += 1;
+    }
+    sums
+}
+
+// The same sum's bound.
+pub fn bound_of(file: &[u8], start: usize, at: usize, count: usize) -> i64
+    requires { ⌜ count ≤ 12 ⌝ }
+    requires { ⌜ ((j : ℕ) → j < count → Usable (now file) start at j) ⌝ }
+    ensures { λ r. ⌜ r ≡ sumOf (constraintsFrom (now (file .entry)) start) (lineAt (now (file .entry)) at) count .bound ⌝ }
+{
+    let mut bound: i64 = 0;
+    let mut j = 0;
+    while j < count {
+        bound = bound_at(file, start, at, j) + bound;
+        j += 1;
+    }
+    bound
+}
+
+// Each sum is 0.
+pub fn are_zero(sums: [i64; 576]) -> bool
+    ensures { λ r. ⌜ r ≡ every (λ x. sameZ (getD sums x (pos 0)) (pos 0)) 576 ⌝ }
+{
+    let mut x = 0;
+    while x < 576 {
+        let sum = sums[x];
+        if !((sum <= 0) & (0 <= sum)) {
+            return false;
+        }
+        x += 1;
+    }
+    true
+}
