@@ -3,7 +3,7 @@
 use mathlib.Core.Path.{_≡_, sym, _∙_, ap}
 use mathlib.Core.List.{List}
 use Prim.Native.Nat.{ℕ, zero, suc, _+_, _*_, _≤_, _<_}
-use native.Mathlib.Nat.{le-refl, le-trans}
+use native.Mathlib.Nat.{le-refl}
 use native.Mathlib.Omega.{arith}
 use lib.IntN.{ℤ, pos, natAbs, _+ℤ_, _*ℤ_}
 use lib.ListN.{length, getD, set, replicate, length-replicate, getD-replicate}
@@ -29,19 +29,19 @@ module _ (s : List ℕ) (at : ℕ) (good : Summable s at) (z : ℤ) (small : nat
     (f : x ≡ variable (termAt s at j .offset) (termAt s at j .stream))
     (g : v ≡ z *ℤ termAt s at j .coefficient) where
   pub in-array : x < 576
-  in-array = rw f (good .variables j l)
+  in-array = rw f (good .limited .variables j l)
 
   so-far : natAbs (getD new x (pos 0)) ≤ 1008000000000000000
   so-far =
       let terms = scaled z (written (constraintAt s at) j) in
       let light : weight terms ≤ 8000000000000000 =
-      weight-terms z (constraintAt s at) j small (omega (arith, good .few)) (λ i k. good .coefficients i (omega arith)) in
+      weight-terms z (constraintAt s at) j small (omega (arith, good .limited .few)) (λ i k. good .limited .coefficients i (omega arith)) in
       let now : natAbs (getD (addForm base terms) x (pos 0)) ≤ weight terms + 1000000000000000000 =
       entry-within base terms x 1000000000000000000 (rw sized in-array) (within x in-array) in
       rw e (omega arith)
 
   added : natAbs v ≤ 1000000 * 1000000000
-  added = rw g (bound-mul 1000000 1000000000 z (termAt s at j .coefficient) small (good .coefficients j l))
+  added = rw g (bound-mul 1000000 1000000000 z (termAt s at j .coefficient) small (good .limited .coefficients j l))
 
   pub term-fits : SFits w64 (rd w64 (getD new x (pos 0)) +ℤ rd w64 v)
   term-fits = small-sum-fits w64 (getD new x (pos 0)) v so-far added (omega arith)
@@ -72,7 +72,7 @@ module _ (s : List ℕ) (start at : ℕ) where
       let light : weight terms ≤ 8000000000000000 =
       weight-terms (factorOf (literalAt s at n) (multiplierAt s at n)) (constraintAt s (placeOf s start at n)) _
       (rw (abs-factor (literalAt s at n) (multiplierAt s at n)) (good .multiplier))
-      (good .summable .few) (good .summable .coefficients) in
+      (good .summable .limited .few) (good .summable .limited .coefficients) in
       omega (arith, more, forms-within n (λ j l. u j (omega arith)))
 
   -- the bound that literal j adds
@@ -83,7 +83,7 @@ module _ (s : List ℕ) (start at : ℕ) where
   added-within j good =
       let b = headAt s (placeOf s start at j) .bound in
       let opposite : natAbs (oppositeBound (literalAt s at j) b) ≤ 200000000000 =
-      omega (arith, opposite-within (literalAt s at j) b, good .summable .bound) in
+      omega (arith, opposite-within (literalAt s at j) b, good .summable .limited .bound) in
       bound-mul 1000000 200000000000 (pos (multiplierAt s at j)) (oppositeBound (literalAt s at j) b) (good .multiplier) opposite
 
   pub bounds-within : (n : ℕ) → ((j : ℕ) → j < n → Usable s start at j)
@@ -128,3 +128,12 @@ module _ (s : List ℕ) (start at : ℕ) where
       let now : natAbs (getD (addForm zeros f) x (pos 0)) ≤ weight f + 0 =
       entry-within zeros f x 0 (rw (length-replicate 576 (pos 0)) l) zero in
       omega (arith, now, forms-within n u)
+
+  -- a constraint's terms added to the sums so far
+  pub literal-turn : (j : ℕ) (sums next : List ℤ) (place : ℕ) (factor : ℤ)
+      → next ≡ addForm sums (scaled factor (written (constraintAt s place) (headAt s place .count)))
+      → place ≡ placeOf s start at j
+      → factor ≡ factorOf (literalAt s at j) (multiplierAt s at j)
+      → sums ≡ sumsOf constraints line j
+      → next ≡ sumsOf constraints line (j + 1)
+  literal-turn j sums next place factor e f g h = e ∙ rw (f, g, h) (sym (sums-more constraints line j))

@@ -1,13 +1,13 @@
 -- "Arithmetic: at least one literal, all on constraints. The opposites, times their multipliers (1 to 1,000,000), sum to
 -- coefficient 0 at each variable and to a bound of at most −1."
 use Prim.Native.Nat.{ℕ, zero, suc}
-use mathlib.Core.List.{List, [], _++_}
+use mathlib.Core.List.{[], _++_}
 use mathlib.Core.Bool.{Bool, cond, _&&_}
 use lib.Dec.{leb}
-use lib.IntN.{ℤ, pos, negℤ, _+ℤ_, _*ℤ_}
+use lib.IntN.{pos, negℤ, _+ℤ_, _*ℤ_}
 use lib.Signed.{leZ}
 use Rattle.answers.specs.Checks.{every}
-use Rattle.constraints.specs.Layout.{Constraint, Line, constraintOf}
+use Rattle.constraints.specs.Layout.{Constraint, Line}
 use Rattle.constraints.specs.Linear.{Bounded, coefficient, scaled, negated, boundedOf, sameZ}
 use Rattle.clauses.specs.Literals.{atomOf, isNegated, isConstraint, constraintNumber}
 

@@ -5,18 +5,26 @@ use mathlib.Core.List.{List}
 use mathlib.Core.Bool.{true}
 use lib.IntN.{natAbs}
 use lib.ListN.{length}
-use Rattle.constraints.specs.Layout.{headAt, termAt, lineHeadAt, literalAt, multiplierAt}
+use Rattle.constraints.specs.Layout.{Constraint, constraintAt, lineHeadAt, literalAt, multiplierAt}
 use Rattle.constraints.specs.Linear.{variable}
 use Rattle.clauses.specs.Literals.{atomOf, isConstraint}
 use Rattle.arithmetic.specs.Sums.{placeOf}
 
--- the constraint at an offset stands within the file, and keeps its limits
+-- the first n terms name variables below 576: 64 streams at nine offsets
+abbrev pub Named : Constraint → (n : ℕ) → Type 0
+Named c n = (j : ℕ) → j < n → variable (c .term j .offset) (c .term j .stream) < 576
+
+-- a constraint within its limits
+pub record Limited (c : Constraint) : Type 0 where
+  pub few : c .head .count ≤ 8
+  pub bound : natAbs (c .head .bound) ≤ 100000000000
+  pub variables : Named c (c .head .count)
+  pub coefficients : (j : ℕ) → j < c .head .count → natAbs (c .term j .coefficient) ≤ 1000000000
+
+-- the constraint at an offset stands within the file, and is within its limits
 pub record Summable (s : List ℕ) (at : ℕ) : Type 0 where
   pub room : at + 80 ≤ length s
-  pub few : headAt s at .count ≤ 8
-  pub bound : natAbs (headAt s at .bound) ≤ 100000000000
-  pub variables : (j : ℕ) → j < headAt s at .count → variable (termAt s at j .offset) (termAt s at j .stream) < 576
-  pub coefficients : (j : ℕ) → j < headAt s at .count → natAbs (termAt s at j .coefficient) ≤ 1000000000
+  pub limited : Limited (constraintAt s at)
 
 -- literal j of the line at `at` is on such a constraint, and has a multiplier within its limit
 pub record Usable (s : List ℕ) (start at j : ℕ) : Type 0 where

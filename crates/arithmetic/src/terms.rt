@@ -6,12 +6,10 @@ use constraints::multiplier_at;
 use constraints::term_at;
 ghost use Prim.Native.Nat.{ℕ, _+_, _<_, _≤_};
 ghost use mathlib.Core.Path.{_≡_};
-ghost use mathlib.Core.Bool.{true};
 ghost use lib.IntN.{pos, natAbs, _*ℤ_};
 ghost use lib.ListN.{length, getD};
-ghost use Rattle.constraints.specs.Layout.{headAt, termAt, constraintAt, lineAt, literalAt, multiplierAt};
+ghost use Rattle.constraints.specs.Layout.{headAt, termAt, constraintAt, literalAt, multiplierAt};
 ghost use Rattle.constraints.specs.Linear.{variable, scaled, written};
-ghost use Rattle.clauses.specs.Literals.{atomOf, isConstraint};
 ghost use Rattle.arithmetic.specs.Sums.{addForm, placeOf, factorOf, oppositeBound};
 ghost use Rattle.arithmetic.specs.Checkable.{Summable, Usable};
 

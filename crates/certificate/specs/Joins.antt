@@ -1,7 +1,7 @@
 -- "Join: p and q are lower lines of the same part; literal r stands in p, its opposite in q. Each literal of p but r, and of q
 -- but the opposite, stands in this line. More may stand here."
 use Prim.Native.Nat.{ℕ, zero, suc}
-use mathlib.Core.Bool.{Bool, true, false, _&&_, _||_}
+use mathlib.Core.Bool.{Bool, false, _&&_, _||_}
 use lib.Dec.{leb, ltb, eqb}
 use Rattle.answers.specs.Checks.{every}
 use Rattle.constraints.specs.Layout.{Line}

@@ -1,5 +1,5 @@
 -- The conditions 16 to 18 and 21 of "Where each refusal is met", and a line's whole rule.
-use Prim.Native.Nat.{ℕ, zero, suc, _+_, _-_, _*_}
+use Prim.Native.Nat.{ℕ, _+_, _-_}
 use mathlib.Core.Bool.{Bool, true, false, cond, not, _&&_, _||_}
 use lib.Dec.{leb, ltb, eqb}
 use Rattle.answers.specs.Checks.{every}
@@ -53,8 +53,8 @@ pub record Window : Type 0 where
   pub until : ℕ
   -- its equations stand at the offsets below this one
   pub offsets : ℕ
-  -- what its first offset is
-  pub opening : Place
+  -- whether its first offset is instant 0
+  pub isBase : Bool
   -- what its property lines are
   pub property : Line → Bool
 
@@ -80,25 +80,33 @@ stepPropertyOk k prop line =
 -- the base: the instants 0 to k − 1
 abbrev pub baseWindow : (k prop base : ℕ) → Window
 baseWindow k prop base =
-    record { from = 0; until = base; offsets = k; opening = Opening; property = basePropertyOk k prop }
+    record { from = 0; until = base; offsets = k; isBase = true; property = basePropertyOk k prop }
 
 -- the step: any k + 1 instants in a row
 abbrev pub stepWindow : (k prop base step : ℕ) → Window
 stepWindow k prop base step =
-    record { from = base; until = base + step; offsets = k + 1; opening = Unsure; property = stepPropertyOk k prop }
+    record { from = base; until = base + step; offsets = k + 1; isBase = false; property = stepPropertyOk k prop }
 
--- where an offset of a window stands
-abbrev pub placeAt : Window → (offset : ℕ) → Place
-placeAt w offset = cond (eqb offset 0) (w .opening) Inner
+-- what the first offset of a part is: instant 0 in the base, any instant in the step
+abbrev pub openingOf : (isBase : Bool) → Place
+openingOf true = Opening
+openingOf false = Unsure
+
+-- where an offset stands
+abbrev pub placeOf : (isBase : Bool) → (offset : ℕ) → Place
+placeOf isBase offset = cond (eqb offset 0) (openingOf isBase) Inner
 
 -- a line's literals are those of a clause, in its order
-abbrev pub literalsAre : (ℕ → Constraint) → (m : ℕ) → Line → Named → Bool
-literalsAre constraints m line Missing = false
-literalsAre constraints m line (Is c) =
+unfoldable pub clauseIs : (ℕ → Constraint) → (m : ℕ) → Line → Clause → Bool
+clauseIs constraints m line c =
     eqb (line .head .count) (c .count)
     && matchesOf constraints m (c .first) (line .literal 0)
     && (leb (c .count) 1 || matchesOf constraints m (c .second) (line .literal 1))
     && (leb (c .count) 2 || matchesOf constraints m (c .third) (line .literal 2))
+
+abbrev pub literalsAre : (ℕ → Constraint) → (m : ℕ) → Line → Named → Bool
+literalsAre constraints m line Missing = false
+literalsAre constraints m line (Is c) = clauseIs constraints m line c
 
 -- a node as lines see it
 pub record Streams : Type 0 where
@@ -108,14 +116,18 @@ pub record Streams : Type 0 where
   pub equations : ℕ → Equation
 
 -- 17: "clause r, counted from 0, of stream p at offset q (base: below k; step: up to k)"
-unfoldable pub equationOk : Streams → (ℕ → Constraint) → (m : ℕ) → Window → Line → Bool
-equationOk node constraints m w line =
+unfoldable pub equationIn : (n : ℕ) (kinds : ℕ → Kind) (equations : ℕ → Equation) → (ℕ → Constraint) → (m offsets : ℕ) → (isBase : Bool) → Line → Bool
+equationIn n kinds equations constraints m offsets isBase line =
     let p = line .head .p in
     let q = line .head .q in
-    ltb p (node .count)
-    && ltb q (w .offsets)
+    ltb p n
+    && ltb q offsets
     && literalsAre constraints m line
-    (numbered (clauses (node .kinds p) (node .equations p) (placeAt w q) (variable q) (variable (q - 1)) (variable q p)) (line .head .r))
+    (numbered (clauses (kinds p) (equations p) (placeOf isBase q) (variable q) (variable (q - 1)) (variable q p)) (line .head .r))
+
+abbrev pub equationOk : Streams → (ℕ → Constraint) → (m : ℕ) → Window → Line → Bool
+equationOk node constraints m w =
+    equationIn (node .count) (node .kinds) (node .equations) constraints m (w .offsets) (w .isBase)
 
 -- 17, 18, 19, 20: a line's kind
 unfoldable pub kindOk : Streams → (ℕ → Constraint) → (m : ℕ) → Window → (ℕ → Line) → (i : ℕ) → Bool

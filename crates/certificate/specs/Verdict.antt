@@ -6,7 +6,6 @@ use lib.Dec.{ltb}
 use lib.ListN.{length}
 use Rattle.answers.specs.declared.Found.{Found}
 use Rattle.answers.specs.declared.Found.the-variants.{At, Nothing}
-use Rattle.answers.specs.declared.Place.{Place}
 use Rattle.answers.specs.declared.Place.the-variants.{File, Constraint as AtConstraint, Line as AtLine, Base, Step}
 use Rattle.answers.specs.Answer.{Answer, accepted, refused, NodeValues, CertificateValues}
 use Rattle.answers.specs.Checks.{check, checkAll, lowest}
@@ -17,7 +16,7 @@ use Rattle.node.specs.Verdict.{verdictOf as nodeVerdict}
 use Rattle.constraints.specs.Layout.{trailerOf, constraintOf, lineOf}
 use Rattle.constraints.specs.Rules.{Sorts, fixedOk, countsOk, distanceOk, constraintOk}
 use Rattle.certificate.specs.Sorts.{sortsBelow}
-use Rattle.certificate.specs.Lines.{Streams, Window, baseWindow, stepWindow, shapeOk, kindOk, hasEmpty}
+use Rattle.certificate.specs.Lines.{Streams, Window, baseWindow, stepWindow, shapeOk, equationOk, kindOk, hasEmpty}
 
 -- the streams of a node: 0 a bool, 1 an int, 2 none
 abbrev pub sortsOfNode : List ℕ → Sorts
@@ -43,6 +42,11 @@ firstLine cert i = partOf cert 0 i .from
 unfoldable pub shapePasses : (node cert : List ℕ) → (i : ℕ) → Bool
 shapePasses node cert i =
     shapeOk (sortsOfNode node) (trailerOf cert .depth) (trailerOf cert .constraints) (lineOf cert i)
+
+-- rule 17, of line i
+abbrev pub equationPasses : (node cert : List ℕ) → (i : ℕ) → Bool
+equationPasses node cert i =
+    equationOk (streamsOfNode node) (constraintOf cert) (trailerOf cert .constraints) (windowOf node cert i) (lineOf cert i)
 
 unfoldable pub kindPasses : (node cert : List ℕ) → (i : ℕ) → Bool
 kindPasses node cert i =

@@ -1,4 +1,8 @@
 // The certificate checker.
+mod checker;
+mod equations;
+mod file_note;
+mod in_turn;
 mod joins;
 mod lines;
 mod parts;
@@ -6,3 +10,6 @@ mod property;
 mod search;
 mod shape;
 mod sorts;
+
+pub use file_note::note;
+pub use file_note::note_length;

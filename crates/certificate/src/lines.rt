@@ -1,31 +1,45 @@
 // The rules of one line, 16 before its kind's.
+use crate::equations::equation_ok;
 use crate::joins::join_ok;
 use crate::property::base_property_ok;
 use crate::property::step_property_ok;
 use crate::shape::shape_ok;
+use arithmetic::arithmetic_ok;
 use constraints::Trailer;
+use constraints::line_head;
 ghost use Prim.Native.Nat.{_+_, _*_, _<_, _≤_};
 ghost use mathlib.Core.Path.{_≡_};
+ghost use mathlib.Core.Bool.{true};
 ghost use lib.ListN.{length};
-ghost use Rattle.constraints.specs.Layout.{trailerOf, sizeOf, lineOf};
+ghost use Rattle.constraints.specs.Layout.{trailerOf, sizeOf, startOf, constraintOf, lineOf};
+ghost use Rattle.arithmetic.specs.Arithmetic.{arithmeticOk};
 ghost use Rattle.certificate.specs.Checking.{Checking, linesStart};
 ghost use Rattle.certificate.specs.Joins.{joinOk};
 ghost use Rattle.certificate.specs.Ready.{LinesReady};
-ghost use Rattle.certificate.specs.Verdict.{shapePasses, partOf, firstLine};
+ghost use Rattle.certificate.specs.Verdict.{shapePasses, equationPasses, kindPasses, partOf, firstLine};
 
-// Where line 0 stands.
-fn lines_start(cert: &[u8], t: Trailer) -> usize
+// Where constraint 0 stands.
+fn start_of(cert: &[u8], t: Trailer) -> usize
     requires { ⌜ (t ≡ trailerOf (now cert)) × (sizeOf (trailerOf (now cert)) ≤ length (now cert)) ⌝ }
-    ensures { λ r. ⌜ r ≡ linesStart (now (cert .entry)) ⌝ }
+    ensures { λ r. ⌜ r ≡ startOf (now (cert .entry)) ⌝ }
 {
     let constraints = t.constraints as usize;
     let base = t.base as usize;
     let step = t.step as usize;
-    cert.len() - (16 + 80 * (constraints + base + step)) + 80 * constraints
+    cert.len() - (16 + 80 * (constraints + base + step))
+}
+
+// Where line 0 stands.
+pub fn lines_start(cert: &[u8], t: Trailer) -> usize
+    requires { ⌜ (t ≡ trailerOf (now cert)) × (sizeOf (trailerOf (now cert)) ≤ length (now cert)) ⌝ }
+    ensures { λ r. ⌜ r ≡ linesStart (now (cert .entry)) ⌝ }
+{
+    let constraints = t.constraints as usize;
+    start_of(cert, t) + 80 * constraints
 }
 
 // Rule 16, of line i.
-fn shape_passes(
+pub fn shape_passes(
     node: &[u8],
     cert: &[u8],
     sorts: &[u8],
@@ -69,4 +83,77 @@ fn join_passes(cert: &[u8], t: Trailer, i: usize) -> bool
     } else {
         join_ok(cert, lines, base, i)
     }
+}
+
+// Rule 20, of line i.
+fn arithmetic_passes(
+    node: &[u8],
+    cert: &[u8],
+    sorts: &[u8],
+    t: Trailer,
+    n: usize,
+    property: u16,
+    i: usize,
+) -> bool
+    requires { ⌜ Checking (now node) (now cert) (now sorts) t n property ⌝ }
+    requires { ⌜ (i < t .base + t .step) × (shapePasses (now node) (now cert) i ≡ true) ⌝ }
+    ensures { λ r. ⌜ r ≡ arithmeticOk (constraintOf (now (cert .entry))) (lineOf (now (cert .entry)) i) ⌝ }
+{
+    let start = start_of(cert, t);
+    let at = lines_start(cert, t) + 80 * i;
+    arithmetic_ok(cert, start, at)
+}
+
+// Rule 17, of line i.
+fn equation_passes(
+    node: &[u8],
+    cert: &[u8],
+    sorts: &[u8],
+    t: Trailer,
+    n: usize,
+    property: u16,
+    i: usize,
+) -> bool
+    requires { ⌜ Checking (now node) (now cert) (now sorts) t n property ⌝ }
+    requires { ⌜ i < t .base + t .step ⌝ }
+    ensures { λ r. ⌜ r ≡ equationPasses (now (node .entry)) (now (cert .entry)) i ⌝ }
+{
+    let start = start_of(cert, t);
+    let at = lines_start(cert, t) + 80 * i;
+    let m = t.constraints as usize;
+    let depth = t.depth as usize;
+    if i < (t.base as usize) {
+        equation_ok(node, cert, start, m, at, n, depth, true)
+    } else {
+        equation_ok(node, cert, start, m, at, n, depth + 1, false)
+    }
+}
+
+// The rule of line i's kind, where rule 16 has passed it and the lines before it.
+pub fn kind_passes(
+    node: &[u8],
+    cert: &[u8],
+    sorts: &[u8],
+    t: Trailer,
+    n: usize,
+    property: u16,
+    i: usize,
+) -> bool
+    requires { ⌜ Checking (now node) (now cert) (now sorts) t n property ⌝ }
+    requires { ⌜ (i < t .base + t .step) × (shapePasses (now node) (now cert) i ≡ true) ⌝ }
+    requires { ⌜ LinesReady (now cert) (linesStart (now cert)) i ⌝ }
+    ensures { λ r. ⌜ r ≡ kindPasses (now (node .entry)) (now (cert .entry)) i ⌝ }
+{
+    let at = lines_start(cert, t) + 80 * i;
+    let kind = line_head(cert, at).kind;
+    if kind == 1 {
+        return equation_passes(node, cert, sorts, t, n, property, i);
+    }
+    if kind == 2 {
+        return property_passes(cert, t, property, i);
+    }
+    if kind == 3 {
+        return join_passes(cert, t, i);
+    }
+    arithmetic_passes(node, cert, sorts, t, n, property, i)
 }

@@ -1,14 +1,14 @@
 -- "Clauses, in order": what each operator's equation says of a window, one list of clauses an operator.
-use Prim.Native.Nat.{ℕ, zero, suc, _+_, _-_, _*_}
+use Prim.Native.Nat.{ℕ, zero, suc}
 use mathlib.Core.List.{List, [], _∷_, _++_, map}
-use mathlib.Core.Bool.{Bool, true, false, cond}
+use mathlib.Core.Bool.{cond}
 use lib.IntN.{ℤ, pos, negℤ}
 use lib.Signed.{leZ}
 use Rattle.node.specs.declared.equation.Kind.{Kind}
 use Rattle.node.specs.declared.equation.Kind.the-variants.{Bool as BoolKind, Int as IntKind}
 use Rattle.node.specs.declared.equation.Equation.{Equation}
 use Rattle.node.specs.declared.equation.Equation.the-variants.{Input, Constant, Not, And, Or, Same, Sum, Difference, Multiple, AtMost, Equal, If, Arrow, FollowedBy}
-use Rattle.constraints.specs.Linear.{Monomial, Form, Bounded}
+use Rattle.constraints.specs.Linear.{Bounded}
 use Rattle.clauses.specs.declared.pattern.Linear.{Linear}
 use Rattle.clauses.specs.declared.pattern.Pattern.{Pattern}
 use Rattle.clauses.specs.declared.pattern.Pattern.the-variants.{Yes, No, Most}

@@ -1,9 +1,7 @@
 -- "Certificate file": note, constraints, base lines, step lines, trailer. The rules speak of the trailer, constraints and lines,
 -- and of no byte.
 use Prim.Native.Nat.{ℕ, _+_, _-_, _*_}
-use mathlib.Core.List.{List, [], _∷_, map}
-use mathlib.Core.Bool.{Bool}
-use lib.IntN.{ℤ}
+use mathlib.Core.List.{List}
 use lib.ListN.{length}
 use Rattle.fields.specs.Fields.{byteAt, u16At, u32At, i32At, i64At, zerosAt}
 use Rattle.constraints.specs.declared.layout.Trailer.{Trailer}

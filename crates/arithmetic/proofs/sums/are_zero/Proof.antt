@@ -1,6 +1,6 @@
 -- `arithmetic::are_zero` meets its contract. The loop's invariant: each sum passed is 0.
 -- Assumes nothing.
-use mathlib.Core.Path.{_≡_, sym, _∙_}
+use mathlib.Core.Path.{_≡_, sym}
 use mathlib.Core.Bool.{true}
 use Prim.Native.Nat.{_-_, _≤_}
 use native.Mathlib.Omega.{arith}
@@ -16,8 +16,6 @@ use Rattle.answers.proofs.Every.{every-none, every-more, every-not}
 use Rattle.constraints.specs.Linear.{sameZ}
 use Rattle.arithmetic.proofs.sums.are_zero.Statement.{statement}
 use Rattle.arithmetic.proofs.sums.are_zero.Tie as tie
-use Rattle.arithmetic.proofs.sums.are_zero.Reads as reads
-use Rattle.arithmetic.proofs.sums.are_zero.Lts as lts
 
 abbrev Inv-loop : tie.InvT-loop
 Inv-loop sums x₀ x = (x ≤ 576) × (every (λ x. sameZ (getD sums x (pos 0)) (pos 0)) x ≡ true)

@@ -1,7 +1,7 @@
 -- `arithmetic::bound_of` meets its contract. The loop's invariant: the bounds of the literals passed are added.
 -- Assumes nothing.
-use mathlib.Core.Path.{_≡_, refl, sym, _∙_, ap}
-use Prim.Native.Nat.{_-_, _≤_, _<_}
+use mathlib.Core.Path.{_≡_, refl}
+use Prim.Native.Nat.{_-_, _≤_}
 use native.Mathlib.Omega.{arith}
 use borrow.Author.Needs.{needs}
 use mir.Syntax.{w64}
@@ -12,9 +12,6 @@ use Rattle.arithmetic.specs.Sums.{constraintsFrom}
 use Rattle.arithmetic.proofs.Turns.{bound-fits, bound-turn}
 use Rattle.arithmetic.proofs.sums.bound_of.Statement.{statement}
 use Rattle.arithmetic.proofs.sums.bound_of.Tie as tie
-use Rattle.arithmetic.proofs.sums.bound_of.Reads as reads
-use Rattle.arithmetic.proofs.sums.bound_of.Lts as lts
-use Rattle.arithmetic.proofs.terms.bound_at.Reads as bound-at-reads
 
 abbrev Inv-loop : tie.InvT-loop
 Inv-loop file start at count bound₀ j₀ bound j =

@@ -1,17 +1,18 @@
 -- `arithmetic::sums_of` meets its contract. The loop's invariant: the literals passed are added.
 -- Assumes nothing.
-use mathlib.Core.Path.{_≡_, refl, sym, _∙_}
-use Prim.Native.Nat.{_-_, _≤_, _<_}
+use mathlib.Core.Path.{_≡_, refl, _∙_}
+use Prim.Native.Nat.{_-_, _≤_}
 use native.Mathlib.Omega.{arith}
 use borrow.Author.Needs.{needs}
 use mir.Syntax.{w64}
 use mir.Val.{SFits}
 use mir.Facts.{toZ-ofZ}
+use Rattle.integers.proofs.Reading.{rd}
 use Rattle.constraints.specs.Layout.{lineAt, literalAt, multiplierAt}
 use Rattle.arithmetic.specs.Arithmetic.{sumOf}
 use Rattle.arithmetic.specs.Sums.{addForm, sumsOf, constraintsFrom}
-use Rattle.arithmetic.proofs.Adding.{abs-factor, sums-more}
-use Rattle.arithmetic.proofs.Turns.{sums-within}
+use Rattle.arithmetic.proofs.Adding.{abs-factor}
+use Rattle.arithmetic.proofs.Turns.{sums-within, literal-turn}
 use Rattle.arithmetic.proofs.sums.sums_of.Statement.{statement}
 use Rattle.arithmetic.proofs.sums.sums_of.Tie as tie
 
@@ -63,12 +64,16 @@ loop-again : tie.Need-loop-again Inv-loop μ-loop
 loop-again c =
     let turn = c .before .before .before in
     let s = turn .before .before .before in
-    let file = s .args .file .now in
     let f : SFits w64 (c .before .factor-at .result) = search needs in (
       search needs,
-      c .add-terms .ensures
-          ∙ rw (toZ-ofZ f, c .before .factor-at .ensures, c .before .before .place-of .ensures, turn .before .loop .inv .1)
-          (sym (sums-more (constraintsFrom file (s .args .start)) (lineAt file (s .args .at)) (turn .before .loop .j))),
+      literal-turn (s .args .file .now) (s .args .start) (s .args .at) (turn .before .loop .j) (turn .before .loop .sums)
+          (c .add-terms .result)
+          (c .before .before .place-of .result)
+          (rd w64 (c .before .factor-at .result))
+          (c .add-terms .ensures)
+          (c .before .before .place-of .ensures)
+          (toZ-ofZ f ∙ c .before .factor-at .ensures)
+          (turn .before .loop .inv .1),
     )
 
 returns : tie.Need-returns Inv-loop μ-loop

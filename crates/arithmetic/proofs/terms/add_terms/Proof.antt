@@ -1,6 +1,6 @@
 -- `arithmetic::add_terms` meets its contract. The loop's invariant: the terms passed are added.
 -- Assumes nothing.
-use mathlib.Core.Path.{_≡_, refl, sym, _∙_, ap}
+use mathlib.Core.Path.{_≡_, refl, ap}
 use Prim.Native.Nat.{_-_, _≤_, _<_}
 use native.Mathlib.Omega.{arith}
 use borrow.Author.Needs.{needs}
@@ -38,7 +38,7 @@ variable-at-requires : tie.Need-variable-at-requires Inv-loop μ-loop
 variable-at-requires c κs =
     let s = c .before .before .before .before .before in
     let e = ap (λ (h : ConstraintHead). h .count) (c .before .before .before .constraint-head .ensures) in
-    (s .pre .0 .room, omega (arith, e, s .pre .0 .few))
+    (s .pre .0 .room, omega (arith, e, s .pre .0 .limited .few))
 
 weighted-at-requires : tie.Need-weighted-at-requires Inv-loop μ-loop
 weighted-at-requires c κs =
@@ -46,8 +46,8 @@ weighted-at-requires c κs =
     let s = head .before .before in
     let e = ap (λ (h : ConstraintHead). h .count) (head .constraint-head .ensures) in
     let l : c .before .before .loop .j < headAt (s .args .file .now) (s .args .at) .count = omega (arith, e) in (
-      (s .pre .0 .room, omega (arith, s .pre .0 .few)),
-      (rw (toZ-ofZ (s .fits .factor)) (s .pre .1 .0), s .pre .0 .coefficients (c .before .before .loop .j) l),
+      (s .pre .0 .room, omega (arith, s .pre .0 .limited .few)),
+      (rw (toZ-ofZ (s .fits .factor)) (s .pre .1 .0), s .pre .0 .limited .coefficients (c .before .before .loop .j) l),
     )
 
 array-copy-out-new : tie.Need-array-copy-out-new Inv-loop μ-loop
@@ -56,7 +56,7 @@ array-copy-out-new c =
     let s = head .before .before in
     let e = ap (λ (h : ConstraintHead). h .count) (head .constraint-head .ensures) in
     let l : c .before .before .before .loop .j < headAt (s .args .file .now) (s .args .at) .count = omega (arith, e) in
-    rw (c .before .variable-at .ensures) (s .pre .0 .variables (c .before .before .before .loop .j) l)
+    rw (c .before .variable-at .ensures) (s .pre .0 .limited .variables (c .before .before .before .loop .j) l)
 
 mul-new : tie.Need-mul-new Inv-loop μ-loop
 mul-new c = omega (arith, array-copy-out-new c)

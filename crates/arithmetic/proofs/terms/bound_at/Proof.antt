@@ -42,7 +42,7 @@ opposite-bound-requires c κs =
     (record { sfits = c .struct-told .given .1 .1 .0 .1 })
     (head .constraint-head .ensures)
     (head .before .place-of .ensures) in
-    rw read (s .pre .summable .bound)
+    rw read (s .pre .summable .limited .bound)
 
 multiplier-at-requires : tie.Need-multiplier-at-requires
 multiplier-at-requires c κs = search needs

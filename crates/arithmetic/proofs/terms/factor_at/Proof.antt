@@ -1,11 +1,8 @@
 -- `arithmetic::factor_at` meets its contract, by the literal's sign.
 -- Assumes nothing.
-use mathlib.Core.Path.{_≡_, sym, _∙_, ap}
-use mathlib.Core.Bool.{true, false}
-use Prim.Native.Nat.{_≤_}
+use mathlib.Core.Path.{sym, _∙_, ap}
 use native.Mathlib.Omega.{arith}
 use borrow.Author.Needs.{needs}
-use Rattle.constraints.specs.Layout.{literalAt}
 use Rattle.clauses.specs.Literals.{isNegated}
 use Rattle.arithmetic.specs.Sums.{factorOf}
 use Rattle.arithmetic.proofs.Words.{multiplier-word, negated-fits, negated-word}

@@ -1,9 +1,7 @@
 -- `certificate::is_join` meets its contract: the four searches in a row, with the counts that were read.
 -- Assumes nothing.
-use mathlib.Core.Path.{_≡_}
 use Prim.Native.Nat.{_≤_}
 use native.Mathlib.Nat.{sub-zero}
-use native.Mathlib.Omega.{arith}
 use Rattle.certificate.specs.Joins.{joins}
 use borrow.Author.Needs.{needs}
 use Rattle.certificate.proofs.joins.is_join.Statement.{statement}

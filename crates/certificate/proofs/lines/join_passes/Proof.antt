@@ -4,7 +4,7 @@ use mathlib.Core.Path.{_≡_, sym, _∙_, ap}
 use Prim.Native.Nat.{ℕ}
 use denote.Ref.{now}
 use Rattle.constraints.specs.declared.layout.Trailer.{Trailer}
-use Rattle.constraints.specs.Layout.{Line, trailerOf, lineOf}
+use Rattle.constraints.specs.Layout.{Line, lineOf}
 use Rattle.certificate.specs.Joins.{joinOk}
 use Rattle.certificate.specs.Lines.{Window}
 use Rattle.certificate.specs.Verdict.{firstLine}

@@ -1,4 +1,4 @@
--- `certificate::lines_start` meets its contract: the trailer is the file's, and what it counts lies within.
+-- `certificate::lines_start` meets its contract: past the constraints.
 -- Assumes nothing.
 use borrow.Author.Needs.{needs}
 use Rattle.certificate.proofs.lines.lines_start.Statement.{statement}
@@ -7,48 +7,18 @@ use Rattle.certificate.proofs.lines.lines_start.Tie as tie
 cast-constraints : tie.Need-cast-constraints
 cast-constraints c = search needs
 
-cast-base : tie.Need-cast-base
-cast-base c = search needs
-
-cast-step : tie.Need-cast-step
-cast-step c = search needs
-
-add-result : tie.Need-add-result
-add-result c = search needs
-
-add-result-2 : tie.Need-add-result-2
-add-result-2 c = search needs
+start-of-requires : tie.Need-start-of-requires
+start-of-requires c κs = search needs
 
 mul-result : tie.Need-mul-result
 mul-result c = search needs
 
-add-result-3 : tie.Need-add-result-3
-add-result-3 c = search needs
-
-sub-result : tie.Need-sub-result
-sub-result c = rw (c .before .before .before .pre .0) (c .before .before .before .pre .1)
-
-mul-result-2 : tie.Need-mul-result-2
-mul-result-2 c = search needs
-
-add-result-4 : tie.Need-add-result-4
-add-result-4 c = search needs
+add-result : tie.Need-add-result
+add-result c = search needs
 
 returns : tie.Need-returns
-returns c = rw (c .before .before .before .pre .0)
+returns c = rw (c .start-of .ensures, c .before .before .before .pre .0)
 
 pub lines-start-spec : {M : Type 1} → statement M
 lines-start-spec =
-    tie.close
-    (tie.spec
-    cast-constraints
-    cast-base
-    cast-step
-    add-result
-    add-result-2
-    mul-result
-    add-result-3
-    sub-result
-    mul-result-2
-    add-result-4
-    returns)
+    tie.close (tie.spec cast-constraints start-of-requires mul-result add-result returns)

@@ -1,6 +1,6 @@
 -- `certificate::shape_passes` meets its contract: the line lies within the file, and its rule is the verdict's.
 -- Assumes nothing.
-use mathlib.Core.Path.{_≡_, _∙_}
+use mathlib.Core.Path.{_∙_}
 use Prim.Native.Nat.{_+_, _<_}
 use native.Mathlib.Omega.{arith}
 use denote.Ref.{now}

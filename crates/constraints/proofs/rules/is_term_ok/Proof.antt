@@ -3,7 +3,7 @@
 use mathlib.Core.Path.{sym, _∙_, ap, ap₂}
 use mathlib.Core.Bool.{_&&_, and-true}
 use borrow.Author.Tests.{le-leb, lt-leb, eq-eqb, ne-eqb}
-use Rattle.constraints.specs.Rules.{sortsOf, usedOk, unusedOk, rises, termOk}
+use Rattle.constraints.specs.Rules.{usedOk, unusedOk, rises, termOk}
 use borrow.Author.Needs.{needs}
 use Rattle.constraints.proofs.rules.is_term_ok.Statement.{statement}
 use Rattle.constraints.proofs.rules.is_term_ok.Tie as tie

@@ -1,0 +1,73 @@
+-- `certificate::note_length` meets its contract: what rules 11 to 14 let pass lies within the file.
+-- Assumes nothing.
+use mathlib.Core.Path.{_≡_, sym, _∙_}
+use mathlib.Core.Bool.{true}
+use borrow.Author.Tests.{not-true, not-false}
+use denote.Ref.{now}
+use Rattle.certificate.specs.Note.{fileOk, noteLength}
+use Rattle.certificate.proofs.FileFacts.{file-facts}
+use borrow.Author.Needs.{needs}
+use Rattle.certificate.proofs.file_note.note_length.Statement.{statement}
+use Rattle.certificate.proofs.file_note.note_length.Tie as tie
+
+file-ok-requires : tie.Need-file-ok-requires
+file-ok-requires c κs = search needs
+
+passes : (c : tie.Else1) → fileOk (now (c .before .before .before .args .cert)) ≡ true
+passes c = sym (c .before .file-ok .ensures) ∙ not-false _ (c .if1 .left)
+
+returns : tie.Need-returns
+unfolding noteLength
+returns c = rw (sym (c .before .file-ok .ensures) ∙ not-true _ (c .if1 .taken))
+
+trailer-of-requires : tie.Need-trailer-of-requires
+trailer-of-requires c κs = file-facts _ (passes c) .least
+
+cast-constraints : tie.Need-cast-constraints
+cast-constraints c = search needs
+
+cast-base : tie.Need-cast-base
+cast-base c = search needs
+
+cast-step : tie.Need-cast-step
+cast-step c = search needs
+
+add-result : tie.Need-add-result
+add-result c = search needs
+
+add-result-2 : tie.Need-add-result-2
+add-result-2 c = search needs
+
+mul-result : tie.Need-mul-result
+mul-result c = search needs
+
+add-result-3 : tie.Need-add-result-3
+add-result-3 c = search needs
+
+sub-result : tie.Need-sub-result
+sub-result c =
+    let read = c .before .before .before in
+    rw (read .trailer-of .ensures) (file-facts _ (passes (read .before)) .room)
+
+returns-2 : tie.Need-returns-2
+unfolding noteLength
+returns-2 c =
+    let read = c .before .before .before in
+    rw (read .trailer-of .ensures, passes (read .before))
+
+pub note-length-spec : {M : Type 1} → statement M
+note-length-spec =
+    tie.close
+    (tie.spec
+    file-ok-requires
+    returns
+    trailer-of-requires
+    cast-constraints
+    cast-base
+    cast-step
+    add-result
+    add-result-2
+    mul-result
+    add-result-3
+    sub-result
+    returns-2)

@@ -1,0 +1,47 @@
+-- `certificate::line_passes` meets its contract: rule 16 fails, or the rule of the kind decides.
+-- Assumes nothing.
+use mathlib.Core.Path.{_≡_, sym, _∙_}
+use mathlib.Core.Bool.{true}
+use Prim.Native.Nat.{ℕ, _+_, _<_}
+use borrow.Author.Count.{below-more}
+use borrow.Author.Tests.{not-true, not-false}
+use denote.Ref.{now}
+use Rattle.answers.proofs.Tests.{both-true}
+use Rattle.constraints.specs.Layout.{trailerOf}
+use Rattle.certificate.specs.Verdict.{shapePasses, kindPasses}
+use Rattle.certificate.proofs.LineFacts.{lines-ready}
+use borrow.Author.Needs.{needs}
+use Rattle.certificate.proofs.in_turn.line_passes.Statement.{statement}
+use Rattle.certificate.proofs.in_turn.line_passes.Tie as tie
+
+shape-passes-requires : tie.Need-shape-passes-requires
+shape-passes-requires c κs = search needs
+
+shape-true : (c : tie.Else1) → let a = c .before .before .before .before .before .args in shapePasses (now (a .node)) (now (a .cert)) (a .i) ≡ true
+shape-true c = sym (c .before .shape-passes .ensures) ∙ not-false _ (c .if1 .left)
+
+-- rule 16 has passed this line and those before it
+shapes : (c : tie.Else1) → let a = c .before .before .before .before .before .args in (j : ℕ) → j < a .i + 1 → shapePasses (now (a .node)) (now (a .cert)) j ≡ true
+shapes c =
+    let s = c .before .before .before .before .before in
+    below-more (λ (j : ℕ). shapePasses (now (s .args .node)) (now (s .args .cert)) j ≡ true) (s .args .i)
+    (λ j l. both-true (shapePasses (now (s .args .node)) (now (s .args .cert)) j) (kindPasses (now (s .args .node)) (now (s .args .cert)) j) (s .pre .1 .1 j l) .0)
+    (shape-true c)
+
+below : (c : tie.Else1) → let a = c .before .before .before .before .before .args in a .i < trailerOf (now (a .cert)) .base + trailerOf (now (a .cert)) .step
+below c = rw (c .before .before .before .before .before .pre .0 .trailer) at (c .before .before .before .before .before .pre .1 .0)
+
+returns : tie.Need-returns
+returns c = rw (sym (c .before .shape-passes .ensures) ∙ not-true _ (c .if1 .taken))
+
+kind-passes-requires : tie.Need-kind-passes-requires
+kind-passes-requires c κs =
+    let s = c .before .before .before .before .before in
+    (s .pre .0, ((s .pre .1 .0, shape-true c), lines-ready _ _ _ _ _ _ (s .pre .0) (s .args .i) (below c) (shapes c)))
+
+returns-2 : tie.Need-returns-2
+returns-2 c = rw (shape-true (c .before)) (c .kind-passes .ensures)
+
+pub line-passes-spec : {M : Type 1} → statement M
+line-passes-spec =
+    tie.close (tie.spec shape-passes-requires returns kind-passes-requires returns-2)

@@ -1,0 +1,45 @@
+-- `certificate::arithmetic_passes` meets its contract: what rules 11 to 16 leave is what the sums ask.
+-- Assumes nothing.
+use mathlib.Core.Path.{sym, _∙_, ap}
+use Prim.Native.Nat.{_+_, _<_}
+use denote.Ref.{now}
+use Rattle.constraints.specs.Layout.{trailerOf, constraintOf}
+use Rattle.arithmetic.specs.Arithmetic.{arithmeticOk}
+use Rattle.certificate.proofs.LineFacts.{line-checkable}
+use Rattle.certificate.proofs.Settings.{line-is}
+use borrow.Author.Needs.{needs}
+use Rattle.certificate.proofs.lines.arithmetic_passes.Statement.{statement}
+use Rattle.certificate.proofs.lines.arithmetic_passes.Tie as tie
+
+start-of-requires : tie.Need-start-of-requires
+start-of-requires c κs = search needs
+
+lines-start-requires : tie.Need-lines-start-requires
+lines-start-requires c κs = search needs
+
+mul-at : tie.Need-mul-at
+mul-at c = search needs
+
+add-at : tie.Need-add-at
+add-at c = search needs
+
+below : (c : tie.After-lines-start) → let a = c .before .before .before .before .before .args in a .i < trailerOf (now (a .cert)) .base + trailerOf (now (a .cert)) .step
+below c = rw (c .before .before .before .before .before .pre .0 .trailer) at (c .before .before .before .before .before .pre .1 .0)
+
+arithmetic-ok-requires : tie.Need-arithmetic-ok-requires
+arithmetic-ok-requires c κs =
+    let s = c .before .before .before .before .before in
+    rw (c .before .start-of .ensures, c .lines-start .ensures)
+    (line-checkable _ _ _ _ _ _ (s .pre .0) (s .args .i) (below c) (s .pre .1 .1))
+
+returns : tie.Need-returns
+returns c =
+    let s = c .before .before .before .before .before .before in
+    c .arithmetic-ok .ensures
+    ∙ rw (c .before .before .start-of .ensures, c .before .lines-start .ensures)
+    (ap (arithmeticOk (constraintOf (now (s .args .cert)))) (sym (line-is (now (s .args .cert)) (s .args .i))))
+
+pub arithmetic-passes-spec : {M : Type 1} → statement M
+arithmetic-passes-spec =
+    tie.close
+    (tie.spec start-of-requires lines-start-requires mul-at add-at arithmetic-ok-requires returns)

@@ -1,0 +1,84 @@
+// Rule 17: equation lines.
+use clauses::Clause;
+use clauses::Named;
+use clauses::Place;
+use clauses::clause_of;
+use clauses::matches;
+use constraints::line_head;
+use constraints::literal_at;
+use node::equation_of;
+use node::kind_of;
+ghost use Prim.Native.Nat.{_+_, _≤_};
+ghost use mathlib.Core.Path.{_≡_};
+ghost use lib.ListN.{length};
+ghost use Rattle.constraints.specs.Layout.{lineAt};
+ghost use Rattle.clauses.specs.Matching.{Readable, SmallPattern};
+ghost use Rattle.arithmetic.specs.Sums.{constraintsFrom};
+ghost use Rattle.node.specs.Equations.{kindAt, equationAt};
+ghost use Rattle.certificate.specs.Constants.{ConstantsLimited};
+ghost use Rattle.certificate.specs.Lines.{clauseIs, placeOf, equationIn};
+
+// The literals of the line at an offset are those of a clause, in its order.
+fn is_clause(cert: &[u8], start: usize, m: usize, at: usize, c: Clause) -> bool
+    requires { ⌜ Readable (now cert) start m × (at + 80 ≤ length (now cert)) ⌝ }
+    requires { ⌜ SmallPattern (c .first) × SmallPattern (c .second) × SmallPattern (c .third) ⌝ }
+    ensures { λ r. ⌜ r ≡ clauseIs (constraintsFrom (now (cert .entry)) start) m (lineAt (now (cert .entry)) at) c ⌝ }
+{
+    let first = c.first;
+    let second = c.second;
+    let third = c.third;
+    let count = line_head(cert, at).count as usize;
+    (count == c.count)
+        & matches(cert, start, m, first, literal_at(cert, at, 0))
+        & ((c.count <= 1) | matches(cert, start, m, second, literal_at(cert, at, 1)))
+        & ((c.count <= 2) | matches(cert, start, m, third, literal_at(cert, at, 2)))
+}
+
+// Where offset q of a part stands.
+fn place_of(is_base: bool, q: u16) -> Place
+    ensures { λ r. ⌜ r ≡ placeOf «is_base» q ⌝ }
+{
+    if q != 0 {
+        return Place::Inner;
+    }
+    if is_base {
+        Place::Opening
+    } else {
+        Place::Unsure
+    }
+}
+
+// Rule 17, of the line at an offset: clause r of stream p at offset q, which is below `offsets`.
+pub fn equation_ok(
+    node: &[u8],
+    cert: &[u8],
+    start: usize,
+    m: usize,
+    at: usize,
+    n: usize,
+    offsets: usize,
+    is_base: bool,
+) -> bool
+    requires { ⌜ Readable (now cert) start m × (at + 80 ≤ length (now cert)) ⌝ }
+    requires { ⌜ ConstantsLimited (now node) n × (offsets ≤ 9) ⌝ }
+    ensures { λ r. ⌜ r ≡ equationIn n (kindAt (now (node .entry))) (equationAt (now (node .entry))) (constraintsFrom (now (cert .entry)) start) m offsets «is_base» (lineAt (now (cert .entry)) at) ⌝ }
+{
+    let h = line_head(cert, at);
+    let p = h.p as usize;
+    let q = h.q as usize;
+    if !((p < n) & (q < offsets)) {
+        return false;
+    }
+    let place = place_of(is_base, h.q);
+    match clause_of(
+        kind_of(node, p),
+        equation_of(node, p),
+        place,
+        q as u8,
+        h.p,
+        h.r,
+    ) {
+        Named::Is(c) => is_clause(cert, start, m, at, c),
+        Named::Missing => false,
+    }
+}

@@ -1,0 +1,50 @@
+// The certificate's note, handed back as the leading part of the caller's slice.
+use constraints::counts_ok;
+use constraints::distance_ok;
+use constraints::fixed_ok;
+use constraints::trailer_of;
+ghost use mathlib.Core.Path.{_≡_};
+ghost use lib.ListN.{take};
+ghost use Rattle.node.specs.Rules.{lengthOk};
+ghost use Rattle.certificate.specs.Note.{fileOk, noteLength};
+
+// Rule 11.
+pub fn length_ok(size: usize) -> bool
+    ensures { λ r. ⌜ r ≡ lengthOk size ⌝ }
+{
+    (16 <= size) & (size <= 65535)
+}
+
+// Rules 11 to 14.
+fn file_ok(cert: &[u8]) -> bool
+    ensures { λ r. ⌜ r ≡ fileOk (now (cert .entry)) ⌝ }
+{
+    let size = cert.len();
+    if !length_ok(size) {
+        return false;
+    }
+    let t = trailer_of(cert);
+    fixed_ok(t) & counts_ok(t) & distance_ok(t, size)
+}
+
+// How long the note is; 0 where rules 11 to 14 refuse the file.
+pub fn note_length(cert: &[u8]) -> usize
+    ensures { λ r. ⌜ r ≡ noteLength (now (cert .entry)) ⌝ }
+{
+    if !file_ok(cert) {
+        return 0;
+    }
+    let t = trailer_of(cert);
+    let constraints = t.constraints as usize;
+    let base = t.base as usize;
+    let step = t.step as usize;
+    cert.len() - (16 + 80 * (constraints + base + step))
+}
+
+// The note itself.
+pub fn note(cert: &[u8]) -> &[u8]
+    ensures { λ r. ⌜ now r ≡ take (noteLength (now (cert .entry))) (now (cert .entry)) ⌝ }
+{
+    let n = note_length(cert);
+    &cert[..n]
+}

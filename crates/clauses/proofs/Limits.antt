@@ -1,0 +1,131 @@
+-- The clauses of an equation whose constant is within ±1,000,000,000 have only small numbers.
+-- Assumes nothing.
+use mathlib.Core.Path.{_≡_, subst}
+use mathlib.Core.List.{List, [], _∷_, _++_, map}
+use mathlib.Core.Bool.{Bool, true, false, cond}
+use Prim.Native.Nat.{ℕ, zero, suc, _≤_}
+use native.Mathlib.Omega.{arith}
+use lib.IntN.{ℤ, pos, negℤ, natAbs}
+use lib.Signed.{leZ}
+use Rattle.integers.proofs.Abs.{abs-negℤ}
+use Rattle.node.specs.declared.equation.Kind.{Kind}
+use Rattle.node.specs.declared.equation.Kind.the-variants.{Bool as BoolKind, Int as IntKind}
+use Rattle.node.specs.declared.equation.Equation.{Equation}
+use Rattle.node.specs.declared.equation.Equation.the-variants.{Input, Constant, Not, And, Or, Same, Sum, Difference, Multiple, AtMost, Equal, If, Arrow, FollowedBy}
+use Rattle.clauses.specs.declared.pattern.Clause.{Clause}
+use Rattle.clauses.specs.declared.pattern.Named.{Named}
+use Rattle.clauses.specs.declared.pattern.Named.the-variants.{Is, Missing}
+use Rattle.clauses.specs.declared.pattern.Pattern.{Pattern}
+use Rattle.clauses.specs.declared.pattern.Pattern.the-variants.{Yes, No}
+use Rattle.clauses.specs.declared.pattern.Place.{Place}
+use Rattle.clauses.specs.declared.pattern.Place.the-variants.{Opening, Unsure, Inner}
+use Rattle.clauses.specs.Clauses.{most, less, clause1, clause2, clause3, equalTo, sameAs, guarded, clauses, numbered}
+use Rattle.clauses.specs.Matching.{SmallPattern}
+use Rattle.clauses.specs.Limits.{constantOf, SmallClause, AllSmall}
+
+small1 : (p : Pattern) → SmallPattern p → SmallClause (clause1 p)
+small1 p h = record { first = h; second = h; third = h }
+
+small2 : (p q : Pattern) → SmallPattern p → SmallPattern q → SmallClause (clause2 p q)
+small2 p q h k = record { first = h; second = k; third = k }
+
+small3 : (p q r : Pattern) → SmallPattern p → SmallPattern q → SmallPattern r → SmallClause (clause3 p q r)
+small3 p q r h k l = record { first = h; second = k; third = l }
+
+small-most : (x y : ℕ) → SmallPattern (most x y)
+small-most x y = record { a = omega arith; b = omega arith; c = omega arith }
+
+small-less : (x y : ℕ) → SmallPattern (less x y)
+small-less x y = record { a = omega arith; b = omega arith; c = omega arith }
+
+negated-small : (z : ℤ) → natAbs z ≤ 1000000000 → natAbs (negℤ z) ≤ 1000000000
+negated-small z h = rw (abs-negℤ z) h
+
+small-equal-to : (s : ℕ) (a : ℤ) (x : ℕ) (b : ℤ) (y : ℕ) (k : ℤ) → natAbs a ≤ 1000000000 → natAbs b ≤ 1000000000 → AllSmall (equalTo s a x b y k)
+small-equal-to s a x b y k h l = (
+  small1 _ (record { a = omega arith; b = negated-small a h; c = negated-small b l }),
+  (small1 _ (record { a = omega arith; b = h; c = l }), tt),
+)
+
+small-same-as : (kind : Kind) (s t : ℕ) → AllSmall (sameAs kind s t)
+small-same-as BoolKind s t = (small2 (No s) (Yes t) tt tt, (small2 (Yes s) (No t) tt tt, tt))
+small-same-as IntKind s t = (small1 (most s t) (small-most s t), (small1 (most t s) (small-most t s), tt))
+
+small-guarded : (p : Pattern) → SmallPattern p → (cs : List Clause) → AllSmall cs → AllSmall (map (guarded p) cs)
+small-guarded p h [] l = tt
+small-guarded p h (c ∷ cs) l = (record { first = h; second = l .0 .first; third = l .0 .second }, small-guarded p h cs (l .1))
+
+small-append : (cs ds : List Clause) → AllSmall cs → AllSmall ds → AllSmall (cs ++ ds)
+small-append [] ds h l = l
+small-append (c ∷ cs) ds h l = (h .0, small-append cs ds (h .1) l)
+
+small-bool : (t : Bool) (s : ℕ) → SmallPattern (cond t (No s) (Yes s))
+small-bool true s = tt
+small-bool false s = tt
+
+module _ (now back : ℕ → ℕ) (s : ℕ) where
+  pub small-clauses : (kind : Kind) (e : Equation) (place : Place) → natAbs (constantOf e) ≤ 1000000000 → AllSmall (clauses kind e place now back s)
+  small-clauses kind Input place h = tt
+  small-clauses BoolKind (Constant k) place h = (small1 _ (small-bool (leZ k (pos 0)) s), tt)
+  small-clauses IntKind (Constant k) place h = small-equal-to s (pos 0) s (pos 0) s k (omega arith) (omega arith)
+  small-clauses kind (Not a) place h = (
+    small2 (Yes s) (Yes (now a)) tt tt,
+    (small2 (No s) (No (now a)) tt tt, tt),
+  )
+  small-clauses kind (And a b) place h = (
+    small2 (No s) (Yes (now a)) tt tt,
+    (small2 (No s) (Yes (now b)) tt tt, (small3 (Yes s) (No (now a)) (No (now b)) tt tt tt, tt)),
+  )
+  small-clauses kind (Or a b) place h = (
+    small2 (Yes s) (No (now a)) tt tt,
+    (small2 (Yes s) (No (now b)) tt tt, (small3 (No s) (Yes (now a)) (Yes (now b)) tt tt tt, tt)),
+  )
+  small-clauses kind (Same a b) place h = (
+    small3 (No s) (No (now a)) (Yes (now b)) tt tt tt,
+    (
+      small3 (No s) (Yes (now a)) (No (now b)) tt tt tt,
+      (small3 (Yes s) (Yes (now a)) (Yes (now b)) tt tt tt, (small3 (Yes s) (No (now a)) (No (now b)) tt tt tt, tt)),
+    ),
+  )
+  small-clauses kind (Sum a b) place h = small-equal-to s (pos 1) (now a) (pos 1) (now b) (pos 0) (omega arith) (omega arith)
+  small-clauses kind (Difference a b) place h = small-equal-to s (pos 1) (now a) (negℤ (pos 1)) (now b) (pos 0) (omega arith) (omega arith)
+  small-clauses kind (Multiple k a) place h = small-equal-to s k (now a) (pos 0) (now a) (pos 0) h (omega arith)
+  small-clauses kind (AtMost a b) place h = (
+    small2 (No s) (most (now a) (now b)) tt (small-most (now a) (now b)),
+    (small2 (Yes s) (less (now b) (now a)) tt (small-less (now b) (now a)), tt),
+  )
+  small-clauses kind (Equal a b) place h = (
+    small2 (No s) (most (now a) (now b)) tt (small-most (now a) (now b)),
+    (
+      small2 (No s) (most (now b) (now a)) tt (small-most (now b) (now a)),
+      (
+        small3 (Yes s) (less (now a) (now b)) (less (now b) (now a)) tt (small-less (now a) (now b)) (small-less (now b) (now a)),
+        tt,
+      ),
+    ),
+  )
+  small-clauses kind (If a b c) place h =
+      small-append
+      (map (guarded (No (now c))) (sameAs kind s (now a)))
+      (map (guarded (Yes (now c))) (sameAs kind s (now b)))
+      (small-guarded (No (now c)) tt (sameAs kind s (now a)) (small-same-as kind s (now a)))
+      (small-guarded (Yes (now c)) tt (sameAs kind s (now b)) (small-same-as kind s (now b)))
+  small-clauses kind (Arrow a b) Opening h = small-same-as kind s (now a)
+  small-clauses kind (Arrow a b) Unsure h = tt
+  small-clauses kind (Arrow a b) Inner h = small-same-as kind s (now b)
+  small-clauses kind (FollowedBy a b) Opening h = small-same-as kind s (now a)
+  small-clauses kind (FollowedBy a b) Unsure h = tt
+  small-clauses kind (FollowedBy a b) Inner h = small-same-as kind s (back b)
+
+-- so has the clause of a number
+abbrev SmallNamed : Named → Type 0
+SmallNamed (Is c) = SmallClause c
+SmallNamed Missing = Unit {0}
+
+small-number : (cs : List Clause) (r : ℕ) → AllSmall cs → SmallNamed (numbered cs r)
+small-number [] r h = tt
+small-number (c ∷ cs) zero h = h .0
+small-number (c ∷ cs) (suc r) h = small-number cs r (h .1)
+
+pub small-named : (cs : List Clause) (r : ℕ) (c : Clause) → AllSmall cs → numbered cs r ≡ Is c → SmallClause c
+small-named cs r c h e = subst SmallNamed e (small-number cs r h)

@@ -1,0 +1,48 @@
+-- A literal by its sign and atom, and when it says a constraint.
+-- Assumes nothing.
+use mathlib.Core.Path.{_≡_, refl, sym}
+use mathlib.Core.Bool.{Bool, true, false, not, _&&_, and-false}
+use Prim.Native.Nat.{ℕ, _+_, _*_, _/_, _%_, _≤_, _<_}
+use native.Mathlib.Omega.{arith}
+use lib.Dec.{eqb}
+use borrow.Author.Tests.{eqb-true, eqb-false, eq-eqb, ne-eqb, le-leb, lt-leb, lt-ltb, le-ltb}
+use Rattle.constraints.specs.Layout.{Constraint}
+use Rattle.constraints.specs.Linear.{sameContent, boundedOf as ofConstraint}
+use Rattle.clauses.specs.declared.pattern.Linear.{Linear}
+use Rattle.clauses.specs.Clauses.{boundedOf}
+use Rattle.clauses.specs.Literals.{positive, negative, atomOf, isNegated, constraintNumber}
+use Rattle.clauses.specs.Matching.{saysMost}
+
+module _ (l x : ℕ) where
+  positive-case : (t u : Bool) → eqb (l % 2) 1 ≡ t → eqb (l / 2) x ≡ u → (not t && u) ≡ eqb l (2 * x)
+  positive-case true u e f = sym (ne-eqb l (2 * x) (λ (p : l ≡ 2 * x). omega (arith, eqb-true (l % 2) 1 e)))
+  positive-case false true e f = sym (eq-eqb l (2 * x) (omega (arith, eqb-false (l % 2) 1 e, eqb-true (l / 2) x f)))
+  positive-case false false e f = sym (ne-eqb l (2 * x) (λ (p : l ≡ 2 * x). eqb-false (l / 2) x f (omega arith)))
+
+  pub positive-test : (not (isNegated l) && eqb (atomOf l) x) ≡ eqb l (positive x)
+  positive-test = positive-case (eqb (l % 2) 1) (eqb (l / 2) x) refl refl
+
+  negative-case : (t u : Bool) → eqb (l % 2) 1 ≡ t → eqb (l / 2) x ≡ u → (t && u) ≡ eqb l (2 * x + 1)
+  negative-case false u e f = sym (ne-eqb l (2 * x + 1) (λ (p : l ≡ 2 * x + 1). eqb-false (l % 2) 1 e (omega arith)))
+  negative-case true true e f = sym (eq-eqb l (2 * x + 1) (omega (arith, eqb-true (l % 2) 1 e, eqb-true (l / 2) x f)))
+  negative-case true false e f = sym (ne-eqb l (2 * x + 1) (λ (p : l ≡ 2 * x + 1). eqb-false (l / 2) x f (omega arith)))
+
+  pub negative-test : (isNegated l && eqb (atomOf l) x) ≡ eqb l (negative x)
+  negative-test = negative-case (eqb (l % 2) 1) (eqb (l / 2) x) refl refl
+
+module _ (constraint : ℕ → Constraint) (m : ℕ) (d : Linear) (l : ℕ) where
+  pub not-negated : isNegated l ≡ true → saysMost constraint m d l ≡ false
+  unfolding saysMost
+  not-negated e = rw e
+
+  pub not-bool : atomOf l < 576 → saysMost constraint m d l ≡ false
+  unfolding saysMost
+  not-bool h = rw (lt-leb 576 (atomOf l) h, and-false)
+
+  pub not-past : m ≤ constraintNumber (atomOf l) → saysMost constraint m d l ≡ false
+  unfolding saysMost
+  not-past h = rw (le-ltb (constraintNumber (atomOf l)) m h, and-false)
+
+  pub says-content : isNegated l ≡ false → 576 ≤ atomOf l → constraintNumber (atomOf l) < m → saysMost constraint m d l ≡ sameContent (ofConstraint (constraint (constraintNumber (atomOf l)))) (boundedOf d)
+  unfolding saysMost
+  says-content e h k = rw (e, le-leb 576 (atomOf l) h, lt-ltb (constraintNumber (atomOf l)) m k)

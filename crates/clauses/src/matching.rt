@@ -1,0 +1,59 @@
+// A literal of a line against one of a clause.
+use crate::content::same_content;
+use crate::literal::Literal;
+use crate::pattern::Linear;
+use crate::pattern::Pattern;
+ghost use Prim.Native.Nat.{_+_, _*_};
+ghost use mathlib.Core.Path.{_≡_};
+ghost use lib.Dec.{eqb};
+ghost use Rattle.constraints.specs.Layout.{constraintAt};
+ghost use Rattle.clauses.specs.Content.{Small};
+ghost use Rattle.clauses.specs.Literals.{positive, negative};
+ghost use Rattle.clauses.specs.Matching.{saysMost, matchesOf, Readable, SmallPattern};
+
+// By its sign and atom, since twice an atom may not fit.
+fn is_yes(literal: u16, x: usize) -> bool
+    ensures { λ z. ⌜ z ≡ eqb literal (positive x) ⌝ }
+{
+    let l = Literal(literal);
+    !l.sign() & (l.atom() == x)
+}
+
+fn is_no(literal: u16, x: usize) -> bool
+    ensures { λ z. ⌜ z ≡ eqb literal (negative x) ⌝ }
+{
+    let l = Literal(literal);
+    l.sign() & (l.atom() == x)
+}
+
+// The literal is one of the m constraints from an offset on, unnegated, and that has the content of d.
+fn is_most(file: &[u8], start: usize, m: usize, d: Linear, literal: u16) -> bool
+    requires { ⌜ Readable (now file) start m × Small d ⌝ }
+    ensures { λ z. ⌜ z ≡ saysMost (λ i. constraintAt (now (file .entry)) (start + 80 * i)) m d literal ⌝ }
+{
+    let l = Literal(literal);
+    let atom = l.atom();
+    if l.sign() {
+        return false;
+    }
+    if atom < 576 {
+        return false;
+    }
+    let i = atom - 576;
+    if m <= i {
+        return false;
+    }
+    same_content(file, start + 80 * i, d)
+}
+
+// The literal matches the pattern, where the file's m constraints stand from an offset on.
+pub fn matches(file: &[u8], start: usize, m: usize, p: Pattern, literal: u16) -> bool
+    requires { ⌜ Readable (now file) start m × SmallPattern p ⌝ }
+    ensures { λ z. ⌜ z ≡ matchesOf (λ i. constraintAt (now (file .entry)) (start + 80 * i)) m p literal ⌝ }
+{
+    match p {
+        Pattern::Yes(x) => is_yes(literal, x),
+        Pattern::No(x) => is_no(literal, x),
+        Pattern::Most(d) => is_most(file, start, m, d, literal),
+    }
+}

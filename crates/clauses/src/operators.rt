@@ -1,0 +1,186 @@
+// The clauses of each operator, over variables.
+use crate::lists::less;
+use crate::lists::most;
+use crate::lists::of_four;
+use crate::lists::of_one;
+use crate::lists::of_three;
+use crate::lists::of_two;
+use crate::lists::one;
+use crate::lists::three;
+use crate::lists::two;
+use crate::pattern::Linear;
+use crate::pattern::Named;
+use crate::pattern::Pattern;
+use node::Kind;
+ghost use mathlib.Core.Path.{_≡_};
+ghost use lib.IntN.{negℤ};
+ghost use Rattle.node.specs.declared.equation.Kind.the-variants.{Bool as BoolKind, Int as IntKind};
+ghost use Rattle.node.specs.declared.equation.Equation.the-variants.{Constant, Not, And, Or, Same, Multiple, AtMost, Equal, If};
+ghost use Rattle.clauses.specs.Clauses.{equalTo, sameAs, numbered};
+ghost use Rattle.clauses.specs.Operators.{over};
+
+// A constant, and its negation, in 64 bits.
+fn wide(k: i32) -> i64
+    ensures { λ z. ⌜ z ≡ k ⌝ }
+{
+    k as i64
+}
+
+fn minus(k: i32) -> i64
+    ensures { λ z. ⌜ z ≡ negℤ k ⌝ }
+{
+    -wide(k)
+}
+
+// "{s ≤ e} {e ≤ s}", with e = a·x + b·y + k
+pub fn equal_to(s: usize, a: i32, x: usize, b: i32, y: usize, k: i32, r: u16) -> Named
+    ensures { λ z. ⌜ z ≡ numbered (equalTo s a x b y k) r ⌝ }
+{
+    let upper = Linear {
+        x: s,
+        a: 1,
+        y: x,
+        b: minus(a),
+        z: y,
+        c: minus(b),
+        bound: wide(k),
+    };
+    let lower = Linear {
+        x: s,
+        a: -1,
+        y: x,
+        b: wide(a),
+        z: y,
+        c: wide(b),
+        bound: minus(k),
+    };
+    of_two(one(Pattern::Most(upper)), one(Pattern::Most(lower)), r)
+}
+
+// "{!s, t} {s, !t} or {s ≤ t} {t ≤ s}"
+pub fn same_as(kind: Kind, s: usize, t: usize, r: u16) -> Named
+    ensures { λ z. ⌜ z ≡ numbered (sameAs kind s t) r ⌝ }
+{
+    match kind {
+        Kind::Bool => of_two(
+            two(Pattern::No(s), Pattern::Yes(t)),
+            two(Pattern::Yes(s), Pattern::No(t)),
+            r,
+        ),
+        Kind::Int => of_two(one(most(s, t)), one(most(t, s)), r),
+    }
+}
+
+// Operator 1.
+pub fn constant(kind: Kind, s: usize, k: i32, r: u16) -> Named
+    ensures { λ z. ⌜ z ≡ numbered (over kind (Constant k) s) r ⌝ }
+{
+    match kind {
+        Kind::Bool => if k <= 0 {
+            of_one(one(Pattern::No(s)), r)
+        } else {
+            of_one(one(Pattern::Yes(s)), r)
+        },
+        Kind::Int => equal_to(s, 0, s, 0, s, k, r),
+    }
+}
+
+// Operator 2.
+pub fn not(s: usize, a: usize, r: u16) -> Named
+    ensures { λ z. ⌜ z ≡ numbered (over BoolKind (Not a) s) r ⌝ }
+{
+    of_two(
+        two(Pattern::Yes(s), Pattern::Yes(a)),
+        two(Pattern::No(s), Pattern::No(a)),
+        r,
+    )
+}
+
+// Operator 3.
+pub fn and(s: usize, a: usize, b: usize, r: u16) -> Named
+    ensures { λ z. ⌜ z ≡ numbered (over BoolKind (And a b) s) r ⌝ }
+{
+    of_three(
+        two(Pattern::No(s), Pattern::Yes(a)),
+        two(Pattern::No(s), Pattern::Yes(b)),
+        three(Pattern::Yes(s), Pattern::No(a), Pattern::No(b)),
+        r,
+    )
+}
+
+// Operator 4.
+pub fn or(s: usize, a: usize, b: usize, r: u16) -> Named
+    ensures { λ z. ⌜ z ≡ numbered (over BoolKind (Or a b) s) r ⌝ }
+{
+    of_three(
+        two(Pattern::Yes(s), Pattern::No(a)),
+        two(Pattern::Yes(s), Pattern::No(b)),
+        three(Pattern::No(s), Pattern::Yes(a), Pattern::Yes(b)),
+        r,
+    )
+}
+
+// Operator 5.
+pub fn same(s: usize, a: usize, b: usize, r: u16) -> Named
+    ensures { λ z. ⌜ z ≡ numbered (over BoolKind (Same a b) s) r ⌝ }
+{
+    of_four(
+        three(Pattern::No(s), Pattern::No(a), Pattern::Yes(b)),
+        three(Pattern::No(s), Pattern::Yes(a), Pattern::No(b)),
+        three(Pattern::Yes(s), Pattern::Yes(a), Pattern::Yes(b)),
+        three(Pattern::Yes(s), Pattern::No(a), Pattern::No(b)),
+        r,
+    )
+}
+
+// Operator 8.
+pub fn multiple(s: usize, k: i32, a: usize, r: u16) -> Named
+    ensures { λ z. ⌜ z ≡ numbered (over IntKind (Multiple k a) s) r ⌝ }
+{
+    equal_to(s, k, a, 0, a, 0, r)
+}
+
+// Operator 9.
+pub fn at_most(s: usize, a: usize, b: usize, r: u16) -> Named
+    ensures { λ z. ⌜ z ≡ numbered (over BoolKind (AtMost a b) s) r ⌝ }
+{
+    of_two(
+        two(Pattern::No(s), most(a, b)),
+        two(Pattern::Yes(s), less(b, a)),
+        r,
+    )
+}
+
+// Operator 10.
+pub fn equal(s: usize, a: usize, b: usize, r: u16) -> Named
+    ensures { λ z. ⌜ z ≡ numbered (over BoolKind (Equal a b) s) r ⌝ }
+{
+    of_three(
+        two(Pattern::No(s), most(a, b)),
+        two(Pattern::No(s), most(b, a)),
+        three(Pattern::Yes(s), less(a, b), less(b, a)),
+        r,
+    )
+}
+
+// Operator 11.
+pub fn if_then_else(kind: Kind, s: usize, a: usize, b: usize, c: usize, r: u16) -> Named
+    ensures { λ z. ⌜ z ≡ numbered (over kind (If a b c) s) r ⌝ }
+{
+    match kind {
+        Kind::Bool => of_four(
+            three(Pattern::No(c), Pattern::No(s), Pattern::Yes(a)),
+            three(Pattern::No(c), Pattern::Yes(s), Pattern::No(a)),
+            three(Pattern::Yes(c), Pattern::No(s), Pattern::Yes(b)),
+            three(Pattern::Yes(c), Pattern::Yes(s), Pattern::No(b)),
+            r,
+        ),
+        Kind::Int => of_four(
+            two(Pattern::No(c), most(s, a)),
+            two(Pattern::No(c), most(a, s)),
+            two(Pattern::Yes(c), most(s, b)),
+            two(Pattern::Yes(c), most(b, s)),
+            r,
+        ),
+    }
+}

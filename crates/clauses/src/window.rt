@@ -1,0 +1,75 @@
+// The clauses of an equation at an offset of a window.
+use crate::operators::and;
+use crate::operators::at_most;
+use crate::operators::constant;
+use crate::operators::equal;
+use crate::operators::equal_to;
+use crate::operators::if_then_else;
+use crate::operators::multiple;
+use crate::operators::not;
+use crate::operators::or;
+use crate::operators::same;
+use crate::operators::same_as;
+use crate::pattern::Named;
+use crate::pattern::Place;
+use node::Equation;
+use node::Kind;
+ghost use Prim.Native.Nat.{_-_};
+ghost use mathlib.Core.Path.{_≡_};
+ghost use Rattle.node.specs.declared.equation.Equation.the-variants.{Arrow};
+ghost use Rattle.constraints.specs.Linear.{variable};
+ghost use Rattle.clauses.specs.Clauses.{clauses, numbered};
+
+// Stream x at an offset, as one number.
+pub fn var(offset: u8, x: u16) -> usize
+    ensures { λ v. ⌜ v ≡ variable offset x ⌝ }
+{
+    64 * (offset as usize) + (x as usize)
+}
+
+// Stream x at one offset lower.
+fn back(offset: u8, x: u16) -> usize
+    ensures { λ v. ⌜ v ≡ variable (offset - 1) x ⌝ }
+{
+    if offset == 0 {
+        x as usize
+    } else {
+        var(offset - 1, x)
+    }
+}
+
+// Operators 12 and 13: at the window's start the first operand, or no clause where that may be any instant; later the second.
+fn later(kind: Kind, place: Place, s: usize, first: usize, second: usize, r: u16) -> Named
+    ensures { λ z. ⌜ z ≡ numbered (clauses kind (Arrow first second) place (λ x. x) (λ x. x) s) r ⌝ }
+{
+    match place {
+        Place::Opening => same_as(kind, s, first, r),
+        Place::Unsure => Named::Missing,
+        Place::Inner => same_as(kind, s, second, r),
+    }
+}
+
+// Clause r, counted from 0, of stream s at an offset.
+pub fn clause_of(kind: Kind, e: Equation, place: Place, offset: u8, s: u16, r: u16) -> Named
+    ensures { λ z. ⌜ z ≡ numbered (clauses kind e place (variable offset) (variable (offset - 1)) (variable offset s)) r ⌝ }
+{
+    let s = var(offset, s);
+    match e {
+        Equation::Input => Named::Missing,
+        Equation::Constant(k) => constant(kind, s, k, r),
+        Equation::Not(a) => not(s, var(offset, a), r),
+        Equation::And(a, b) => and(s, var(offset, a), var(offset, b), r),
+        Equation::Or(a, b) => or(s, var(offset, a), var(offset, b), r),
+        Equation::Same(a, b) => same(s, var(offset, a), var(offset, b), r),
+        Equation::Sum(a, b) => equal_to(s, 1, var(offset, a), 1, var(offset, b), 0, r),
+        Equation::Difference(a, b) => equal_to(s, 1, var(offset, a), -1, var(offset, b), 0, r),
+        Equation::Multiple(k, a) => multiple(s, k, var(offset, a), r),
+        Equation::AtMost(a, b) => at_most(s, var(offset, a), var(offset, b), r),
+        Equation::Equal(a, b) => equal(s, var(offset, a), var(offset, b), r),
+        Equation::If(a, b, c) => {
+            if_then_else(kind, s, var(offset, a), var(offset, b), var(offset, c), r)
+        }
+        Equation::Arrow(a, b) => later(kind, place, s, var(offset, a), var(offset, b), r),
+        Equation::FollowedBy(a, b) => later(kind, place, s, var(offset, a), back(offset, b), r),
+    }
+}
