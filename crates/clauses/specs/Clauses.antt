@@ -30,12 +30,6 @@ boundedOf l =
       bound = l .bound;
     }
 
-abbrev one : ℤ
-one = pos 1
-
-abbrev none : ℤ
-none = pos 0
-
 -- ""x ≤ y" is the constraint x − y at most 0"
 abbrev pub most : (x y : ℕ) → Pattern
 most x y = Most (linear x (pos 1) y (negℤ (pos 1)) x (pos 0) (pos 0))
