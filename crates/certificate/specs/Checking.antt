@@ -1,6 +1,7 @@
 -- What the checks of lines count on: rules 1 to 8 and 11 to 15 have passed, and what was read of them is at hand.
 use Prim.Native.Nat.{ℕ, _+_, _*_}
 use mathlib.Core.Path.{_≡_}
+use mathlib.Core.Bool.{true}
 use mathlib.Core.List.{List}
 use Rattle.node.specs.Layout.{streamsOf, propertyOf}
 use Rattle.node.specs.Outcome.{NodeRules}
@@ -8,11 +9,23 @@ use Rattle.constraints.specs.declared.layout.Trailer.{Trailer}
 use Rattle.constraints.specs.Layout.{trailerOf, startOf}
 use Rattle.constraints.specs.Ready.{Ready}
 use Rattle.constraints.specs.Rules.{sortsOf}
+use Rattle.certificate.specs.Note.{fileOk}
 use Rattle.certificate.specs.Verdict.{sortsOfNode}
 
 -- where line 0 stands
 abbrev pub linesStart : List ℕ → ℕ
 linesStart cert = startOf cert + 80 * trailerOf cert .constraints
+
+-- rules 1 to 8 have passed, and the node's sizes are at hand
+pub record NodePassed (node : List ℕ) (n property : ℕ) : Type 0 where
+  pub streams : n ≡ streamsOf node
+  pub property-is : property ≡ propertyOf node
+  pub node-rules : NodeRules node
+
+-- rules 11 to 14 have passed, and the trailer is at hand
+pub record FilePassed (cert : List ℕ) (t : Trailer) : Type 0 where
+  pub trailer : t ≡ trailerOf cert
+  pub file : fileOk cert ≡ true
 
 pub record Checking (node cert sorts : List ℕ) (t : Trailer) (n property : ℕ) : Type 0 where
   pub trailer : t ≡ trailerOf cert

@@ -3,6 +3,7 @@ pub mod Constants
 pub mod Joins
 pub mod Lines
 pub mod Note
+pub mod Outcome
 pub mod Ready
 pub mod Sorts
 pub mod Verdict

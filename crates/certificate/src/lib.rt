@@ -7,9 +7,11 @@ mod joins;
 mod lines;
 mod parts;
 mod property;
+mod reading;
 mod search;
 mod shape;
 mod sorts;
 
 pub use file_note::note;
 pub use file_note::note_length;
+pub use reading::verdict;

@@ -19,7 +19,7 @@ ghost use Rattle.certificate.specs.Ready.{LinesReady};
 ghost use Rattle.certificate.specs.Verdict.{shapePasses, equationPasses, kindPasses, partOf, firstLine};
 
 // Where constraint 0 stands.
-fn start_of(cert: &[u8], t: Trailer) -> usize
+pub fn start_of(cert: &[u8], t: Trailer) -> usize
     requires { ⌜ (t ≡ trailerOf (now cert)) × (sizeOf (trailerOf (now cert)) ≤ length (now cert)) ⌝ }
     ensures { λ r. ⌜ r ≡ startOf (now (cert .entry)) ⌝ }
 {

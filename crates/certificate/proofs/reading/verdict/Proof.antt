@@ -1,0 +1,57 @@
+-- `certificate::verdict` meets its contract: the node's refusal, or the verdict on the certificate.
+-- Assumes nothing.
+use mathlib.Core.Path.{_≡_, sym, _∙_, ap}
+use native.Mathlib.Omega.{arith}
+use denote.Ref.{now}
+use Rattle.answers.specs.Answer.{accepted, refused, numberOf, nodeAnswer}
+use Rattle.node.specs.Verdict.{verdictOf as nodeVerdict}
+use Rattle.node.proofs.FileRules.{sizes}
+use Rattle.certificate.specs.Verdict.{verdictOf}
+use Rattle.certificate.proofs.Openings.{node-passed}
+use borrow.Author.Needs.{needs}
+use Rattle.certificate.proofs.reading.verdict.Statement.{statement}
+use Rattle.certificate.proofs.reading.verdict.Tie as tie
+
+node-accepted : (c : tie.After-known-told) → nodeVerdict (now (c .before .before .before .before .before .before .args .node)) ≡ accepted (record { streams = c .before .streams .given .0 .0; property = c .before .streams .given .0 .1 .0 })
+node-accepted c = sym (c .before .before .before .verdict .ensures) ∙ ap nodeAnswer (c .before .streams .given .1)
+
+node-refused : (c : tie.After-known-told2) → nodeVerdict (now (c .before .before .before .before .before .before .args .node)) ≡ refused (numberOf (c .before .rule .given .0 .0)) (c .before .rule .given .0 .1 .0)
+node-refused c = sym (c .before .before .before .verdict .ensures) ∙ ap nodeAnswer (c .before .rule .given .1)
+
+verdict-requires : tie.Need-verdict-requires
+verdict-requires c κs = search needs
+
+enum-known-streams : tie.Need-enum-known-streams
+enum-known-streams c = search needs
+
+cast-certificate-verdict : tie.Need-cast-certificate-verdict
+cast-certificate-verdict c =
+    let passed = node-passed _ _ _ (node-accepted c) in
+    let small = sizes _ (passed .node-rules .file) in
+    omega (arith, passed .property-is, small .property, small .few)
+
+certificate-verdict-requires : tie.Need-certificate-verdict-requires
+certificate-verdict-requires c κs = node-passed _ _ _ (node-accepted c)
+
+enum-known-rule : tie.Need-enum-known-rule
+enum-known-rule c = search needs
+
+returns : tie.Need-returns
+unfolding verdictOf
+returns c = rw (node-accepted (c .before)) (c .certificate-verdict .ensures)
+
+returns-2 : tie.Need-returns-2
+unfolding verdictOf
+returns-2 c = rw (node-refused c)
+
+pub verdict-spec : {M : Type 1} → statement M
+verdict-spec =
+    tie.close
+    (tie.spec
+    verdict-requires
+    enum-known-streams
+    cast-certificate-verdict
+    certificate-verdict-requires
+    enum-known-rule
+    returns
+    returns-2)
