@@ -8,6 +8,8 @@ use Rattle.answers.specs.declared.NodeVerdict.{NodeVerdict}
 use Rattle.answers.specs.declared.NodeVerdict.the-variants.{Accepted, Refused}
 use Rattle.answers.specs.declared.CertificateVerdict.{CertificateVerdict}
 use Rattle.answers.specs.declared.CertificateVerdict.the-variants.{Accepted as Proved, Refused as NotProved}
+use Rattle.answers.specs.declared.InstantVerdict.{InstantVerdict}
+use Rattle.answers.specs.declared.InstantVerdict.the-variants.{Answered, Refused as NotAnswered}
 
 -- "An answer is accepted .., or refused with a number and a place": A is what an accepted one carries
 pub data Answer (A : Type 0) : Type 0 where
@@ -59,3 +61,8 @@ pub record CertificateValues : Type 0 where
 abbrev pub certificateAnswer : CertificateVerdict → Answer CertificateValues
 certificateAnswer (Proved k b s) = accepted (record { depth = k; base = b; step = s })
 certificateAnswer (NotProved rule place) = refused (numberOf rule) place
+
+-- an answered instant's call carries nothing: its values are in the lent slice
+abbrev pub instantAnswer : InstantVerdict → Answer (Unit {0})
+instantAnswer Answered = accepted tt
+instantAnswer (NotAnswered rule place) = refused (numberOf rule) place

@@ -62,6 +62,12 @@ pub enum CertificateVerdict {
     Refused(Rule, Place),
 }
 
+// The answer to an instant's call: answered, or the first rule that is broken and where.
+pub enum InstantVerdict {
+    Answered,
+    Refused(Rule, Place),
+}
+
 // What a search over records, constraints or streams finds: the lowest at fault, or nothing.
 pub enum Found {
     At(usize),

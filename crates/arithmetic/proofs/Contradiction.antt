@@ -123,7 +123,7 @@ below-scaled : (n : ℕ) (z : ℤ) (f : Form) → Below n f → Below n (scaled 
 below-scaled n z [] b = b
 below-scaled n z (m ∷ ms) b = (b .0, below-scaled n z ms (b .1))
 
-below-written : (c : Constraint) (n : ℕ) → Named c n → Below 576 (written c n)
+pub below-written : (c : Constraint) (n : ℕ) → Named c n → Below 576 (written c n)
 unfolding written
 below-written c zero h = tt
 below-written c (suc n) h = (h n (le-refl (suc n)), below-written c n (λ i l. h i (omega arith)))

@@ -27,7 +27,7 @@ use Rattle.certificate.proofs.Settings.{line-fits, line-is, part-base, 
 use Rattle.certificate.proofs.ShapeFacts.{ShapeFacts, shape-facts}
 
 -- int streams are among the first 64
-few-streams : (node : List ℕ) (n : ℕ) → n ≤ 64 → (x : ℕ) → sortsBelow node n x ≡ 1 → x < 64
+pub few-streams : (node : List ℕ) (n : ℕ) → n ≤ 64 → (x : ℕ) → sortsBelow node n x ≡ 1 → x < 64
 few-streams node n most x = go (ltb x n) refl
   where
     go : (b : Bool) → ltb x n ≡ b → cond b (sortOf (kindAt node x)) 2 ≡ 1 → x < 64

@@ -2,6 +2,7 @@
 // An unopenable file is empty; of a longer one the first 65,536 bytes are read, which is enough to refuse its length.
 use answers::NodeVerdict;
 use answers::Place;
+use files::read_file;
 use libc::STDOUT_FILENO;
 
 fn say(text: &[u8]) {
@@ -43,13 +44,7 @@ fn say_verdict(file: &[u8]) {
 
 fn check_file(path: &[u8]) {
     let mut buffer = io::large_buffer();
-    let fd = os::open_read(path);
-    if fd < 0 {
-        say_verdict(&buffer[..0]);
-        return;
-    }
-    let n = io::read_full(fd, &mut buffer);
-    libc::close(fd);
+    let n = read_file(path, &mut buffer);
     say_verdict(&buffer[..n]);
 }
 

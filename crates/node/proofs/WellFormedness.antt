@@ -30,7 +30,7 @@ use Rattle.node.proofs.FileRules.{sizes}
 use Rattle.node.proofs.Outcomes.{accepted-keeps}
 use Rattle.node.proofs.TableRule.{reading, with-op, follows}
 
-all-append : {A : Type 0} (P : A → Type 0) (xs ys : List A) → All P xs → All P ys → All P (xs ++ ys)
+pub all-append : {A : Type 0} (P : A → Type 0) (xs ys : List A) → All P xs → All P ys → All P (xs ++ ys)
 all-append P [] ys ps qs = qs
 all-append P (x ∷ xs) ys ps qs = (ps .0, all-append P xs ys (ps .1) qs)
 

@@ -1,0 +1,3 @@
+pub mod Satisfaction
+pub mod Theorems
+pub mod Windows
