@@ -1,0 +1,130 @@
+"""Writers of certificate files, field by field, right or wrong; and a builder of proofs that works out their joins."""
+import struct
+from dataclasses import dataclass, replace
+
+from node_files import replaced
+
+
+def lit(stream, offset=0):
+    """The literal of a bool stream at an offset."""
+    return 2 * (64 * offset + stream)
+
+
+def on(i):
+    """The literal of constraint i."""
+    return 2 * (576 + i)
+
+
+def opp(literal):
+    """A literal's opposite."""
+    return literal ^ 1
+
+
+def term(stream, offset, coefficient, zero=0):
+    return struct.pack("<HBBi", stream, offset, zero, coefficient)
+
+
+def constraint(terms, bound, count=None, zeros=b""):
+    """Terms past the count are unused ones; what is not given is zero."""
+    count = len(terms) if count is None else count
+    return struct.pack("<B7sq64s", count, zeros, bound, b"".join(terms))
+
+
+@dataclass(frozen=True)
+class Line:
+    """A line; literals and multipliers past the count are unlisted ones, and what is not given is zero."""
+    kind: int
+    p: int = 0
+    q: int = 0
+    r: int = 0
+    literals: tuple = ()
+    multipliers: tuple = ()
+    count: int = None
+
+    def packed(self):
+        count = len(self.literals) if self.count is None else self.count
+        literals = struct.pack(f"<{len(self.literals)}H", *self.literals)
+        multipliers = struct.pack(f"<{len(self.multipliers)}I", *self.multipliers)
+        return struct.pack("<BBHHH24s48s", self.kind, count, self.p, self.q, self.r, literals, multipliers)
+
+
+def trailer(depth, constraints, base, step, distance=None, first=0x4B, second=0x43, version=1, zeros=0):
+    if distance is None:
+        distance = 16 + 80 * (constraints + base + step)
+    return struct.pack("<BBBBHHHHI", first, second, version, depth, constraints, base, step, zeros, distance)
+
+
+@dataclass(frozen=True)
+class Certificate:
+    """Constraints, packed, and lines, of which the first `base` are the base's."""
+    depth: int
+    constraints: list
+    lines: list
+    base: int
+
+    def file(self, note=b"", **fields):
+        """The file; `fields` are those of its trailer that shall say something else."""
+        said = {"depth": self.depth, "constraints": len(self.constraints), "base": self.base,
+                "step": len(self.lines) - self.base, **fields}
+        return note + b"".join(self.constraints) + b"".join(line.packed() for line in self.lines) + trailer(**said)
+
+    def changed(self, i, **fields):
+        """With other fields in line i."""
+        return replace(self, lines=replaced(self.lines, i, replace(self.lines[i], **fields)))
+
+    def more(self, *lines, constraints=()):
+        """With these step lines and constraints after the others."""
+        return replace(self, lines=[*self.lines, *lines], constraints=[*self.constraints, *constraints])
+
+    def with_constraint(self, i, other):
+        return replace(self, constraints=replaced(self.constraints, i, other))
+
+
+class Proof:
+    """A certificate that grows line by line, the base first. A method that adds a line gives its number."""
+
+    def __init__(self, depth, constraints=()):
+        self.depth = depth
+        self.constraints = list(constraints)
+        self.lines = []
+        self.base = None
+
+    def begin_step(self):
+        self.base = len(self.lines)
+
+    def certificate(self):
+        return Certificate(self.depth, self.constraints, self.lines, self.base)
+
+    def at_most(self, coefficients, bound):
+        """The literal of this constraint, coefficients by stream and offset; one that is not there yet is added."""
+        terms = sorted(coefficients.items(), key=lambda item: (item[0][1], item[0][0]))
+        packed = constraint([term(*variable, coefficient) for variable, coefficient in terms], bound)
+        if packed not in self.constraints:
+            self.constraints.append(packed)
+        return on(self.constraints.index(packed))
+
+    def add(self, kind, literals, **fields):
+        self.lines.append(Line(kind, literals=tuple(literals), **fields))
+        return len(self.lines) - 1
+
+    def equation(self, p, q, r, *literals):
+        return self.add(1, literals, p=p, q=q, r=r)
+
+    def property(self, q, *literals):
+        return self.add(2, literals, q=q)
+
+    def arithmetic(self, *literals):
+        """A kind 4 line, each multiplier 1."""
+        return self.add(4, literals, multipliers=(1,) * len(literals))
+
+    def join(self, p, q, r, *more):
+        """Lines p and q joined on r: what they leave, each literal once, and more."""
+        left = [x for x in self.lines[p].literals if x != r] + [x for x in self.lines[q].literals if x != opp(r)]
+        return self.add(3, [*dict.fromkeys(left), *more], p=p, q=q, r=r)
+
+    def strike(self, line, *others):
+        """Joins the line with each of the others in turn, on the one literal that clashes."""
+        for other in others:
+            [r] = {x for x in self.lines[line].literals if opp(x) in self.lines[other].literals}
+            line = self.join(line, other, r)
+        return line

@@ -1,0 +1,418 @@
+#!/usr/bin/env python3
+"""Writes the certificates that crates/check_pairs and crates/check_certificate are run on, and what they should say of each.
+
+    python3 tools/make_certificate_cases.py
+
+Each case gives a node file, a certificate file and the verdict line, written down from the published rules and not computed by
+any checker. The files go to crates/check_pairs/data, the names, node and certificate in turn, to args and the lines to stdout
+beside it. examples/two-bands/cert.bin is written too, and the data and stdout of crates/check_certificate.
+"""
+import example_proofs
+from certificate_files import Certificate, Line, Proof, constraint, lit, on, opp, term, trailer
+from node_files import BOOL, INPUT, INT, ROOT, TWO_BANDS, node, rec, replaced, write_data, write_lines
+
+NODES = dict(example_proofs.NODES)
+CASES = []
+# Of depth 1. Base lines 0 to 11 and step lines 12 to 23; no constraints.
+BANDS = example_proofs.two_bands()
+# Of depth 1. Base lines 0 to 6: {!4}, {0 <= 2}, {4, 2 < 0}, arithmetic 3, joins. Step lines 7 to 27: {4}, {!4, 0 <= 2}, join,
+# equations 10 to 14, arithmetic 15, joins, {!4} at 22, {4, 2 < 0}, arithmetic 24, joins. Constraints 0 to 8.
+COUNTER = example_proofs.counter(1)
+# Of depth 2. Line 0 is {!1 at 0, !1 at 1}; the step is 9 {!1 at 2}, 10 and 11 equations at 2 and 1, 12 {1 at 0}, joins.
+DELAYED = example_proofs.delayed()
+BOUND, COEFFICIENT, MULTIPLIER = 100_000_000_000, 1_000_000_000, 1_000_000
+# "0 at most 0"
+FILLER = constraint([], 0)
+
+
+def case(name, node_name, data, says):
+    name = f"{name}.cert"
+    assert name not in [c[1] for c in CASES], name
+    CASES.append((f"{node_name}.node", name, data.file() if isinstance(data, Certificate) else data, says))
+
+
+def accepted(name, node_name, data, depth, base, step):
+    case(name, node_name, data, f"accepted depth {depth} base {base} step {step}")
+
+
+def refused(name, node_name, data, number, place):
+    case(name, node_name, data, f"refused {number} {place}")
+
+
+def bands(name, data, number, place):
+    refused(name, "two-bands", data, number, place)
+
+
+def counter(name, data, number, place):
+    refused(name, "counter", data, number, place)
+
+
+def whole_proofs():
+    accepted("two-bands", "two-bands", BANDS, 1, 12, 12)
+    accepted("counter", "counter", COUNTER, 1, 7, 21)
+    accepted("counter-depth-8", "counter", example_proofs.counter(8), 8, 126, 21)
+    accepted("countdown-depth-2", "countdown", example_proofs.countdown(2), 2, 26, 23)
+    accepted("grant", "grant", example_proofs.grant(), 1, 22, 32)
+    accepted("delayed-depth-2", "delayed", DELAYED, 2, 9, 7)
+    accepted("ring-depth-8", "ring", example_proofs.ring(), 8, 75, 19)
+    accepted("first-depth-2", "first", example_proofs.first(), 2, 15, 9)
+    accepted("double", "double", example_proofs.double(), 1, 15, 15)
+    accepted("successor", "successor", example_proofs.successor(), 1, 13, 13)
+    accepted("absolute", "absolute", example_proofs.absolute(), 1, 20, 20)
+    accepted("itself", "itself", example_proofs.itself(), 1, 5, 5)
+    accepted("mirror", "mirror", example_proofs.mirror(), 1, 6, 6)
+    # 44 clauses an offset; 36 at step offset 0
+    accepted("all-operators", "all-operators", example_proofs.all_operators(), 2, 92, 128)
+
+
+def most_lines():
+    """818 lines: each part is 397 equations, and then the proof, whose joins cite lines past 255."""
+    def prove(proof, o):
+        for _ in range(397):
+            proof.equation(5, o, 0, lit(5, o), lit(4, o))
+        example_proofs.two_bands_part(proof, o)
+
+    return example_proofs.at_one_offset(prove)
+
+
+def base_names_offset_k():
+    """The base's first line, {c, !c}, is on a constraint at offset 1; its sum is -1 only by the -1 of a negated constraint."""
+    proof = Proof(1)
+    c = proof.at_most({(0, 1): 1}, 5)
+    proof.arithmetic(c, opp(c))
+    example_proofs.itself_part(proof, 0)
+    proof.begin_step()
+    example_proofs.itself_part(proof, 1)
+    return proof.certificate()
+
+
+def proved_twice():
+    """The base is proved twice. Its last line has needless literals, one of them twice; line 11 is its empty one."""
+    proof = Proof(1)
+    example_proofs.two_bands_part(proof, 0)
+    example_proofs.two_bands_part(proof, 0)
+    proof.begin_step()
+    example_proofs.two_bands_part(proof, 1)
+    return proof.certificate().changed(23, literals=(lit(3, 1), lit(0), lit(3, 1)))
+
+
+def allowed():
+    NODES["noted"] = node(TWO_BANDS, 5, b"two bands, one dish")
+    NODES["longest"] = node(TWO_BANDS, 5, b"\xff" * (65535 - 112))
+    accepted("notes-in-front", "noted", BANDS.file(COUNTER.file()), 1, 12, 12)
+    accepted("longest-file", "longest", BANDS.file(b"\xff" * (65535 - 1936)), 1, 12, 12)
+    accepted("longest-file-818-lines", "two-bands", most_lines().file(b"n" * 79), 1, 409, 409)
+    accepted("256-constraints", "counter", example_proofs.counter(1, [FILLER] * 247), 1, 7, 21)
+    accepted("constraints-at-their-limits", "counter", COUNTER.more(constraints=[
+        constraint([], BOUND), constraint([], -BOUND),
+        constraint([term(0, 0, COEFFICIENT), term(0, 1, -COEFFICIENT)], BOUND),
+        constraint([term(s, o, 1) for o in (0, 1) for s in range(4)], 0)]), 1, 7, 21)
+    accepted("base-names-offset-k", "itself", base_names_offset_k(), 1, 6, 5)
+    accepted("proved-twice", "two-bands", proved_twice(), 1, 24, 12)
+
+    # {4, !4} by two clauses of stream 5, and that line joined with itself
+    both = (lit(4, 1), opp(lit(4, 1)))
+    accepted("join-of-a-line-with-itself", "two-bands", BANDS.more(
+        Line(1, 5, 1, 1, (opp(lit(5, 1)), opp(lit(4, 1)))), Line(3, 13, 24, lit(5, 1), both), Line(3, 25, 25, lit(4, 1), both)),
+        1, 12, 15)
+    twelve = (*[opp(lit(s)) for s in range(6)], *[lit(s, 1) for s in range(6)])
+    accepted("join-of-12-literals", "two-bands", BANDS.more(Line(3, 12, 13, opp(lit(5, 1)), twelve)), 1, 12, 13)
+    # constraint 9 is equal to constraint 6: an equation may have either, and arithmetic leads from one to the other
+    accepted("equal-constraints", "counter", COUNTER.more(
+        Line(1, 0, 1, 0, (on(9),)), Line(4, literals=(opp(on(9)), on(6)), multipliers=(1, 1)), Line(3, 28, 29, on(9), (on(6),)),
+        constraints=[COUNTER.constraints[6]]), 1, 7, 24)
+    accepted("literals-of-kind-4-repeated", "counter", COUNTER.more(
+        Line(4, literals=(opp(on(0)), opp(on(1)), opp(on(0))), multipliers=(1, 3, 2))), 1, 7, 22)
+    greatest = [constraint([term(0, 0, c)], -BOUND) for c in (COEFFICIENT, -COEFFICIENT)]
+    accepted("greatest-multipliers-and-sums", "counter", COUNTER.more(
+        Line(4, literals=(opp(on(9)), opp(on(10))) * 6, multipliers=(MULTIPLIER,) * 12), constraints=greatest), 1, 7, 22)
+
+
+def of_the_node():
+    """A refused node wins over a certificate that would be refused too."""
+    NODES["version-2"] = node(TWO_BANDS, 5, version=2)
+    NODES["property-is-n"] = node(TWO_BANDS, 6)
+    NODES["distance-one-less"] = node(TWO_BANDS, 5, distance=111)
+    NODES["operator-14"] = node(replaced(TWO_BANDS, 3, rec(14, BOOL)), 5)
+    NODES["reads-itself"] = node(replaced(TWO_BANDS, 4, rec(3, BOOL, 4, 3)), 5)
+    NODES["typed-int"] = node(replaced(TWO_BANDS, 2, rec(2, INT, 0)), 5)
+    NODES["property-int"] = node([rec(0, INT)], 0)
+    refused("1-no-node-file", "missing", b"", 1, "file")
+    refused("2-node-version-2", "version-2", BANDS.file(version=2), 2, "file")
+    refused("3-node-property-is-n", "property-is-n", BANDS.file(depth=0), 3, "file")
+    refused("4-node-distance", "distance-one-less", BANDS.file(distance=0), 4, "file")
+    refused("5-node-operator-14", "operator-14", BANDS.more(constraints=[constraint([], 0, count=9)]), 5, "record 3")
+    refused("6-node-reads-itself", "reads-itself", BANDS.changed(0, kind=0), 6, "record 4")
+    refused("7-node-typed-int", "typed-int", BANDS.changed(2, p=2), 7, "record 2")
+    refused("8-node-property-int", "property-int", b"\0" * 15, 8, "record 0")
+
+
+def of_the_file():
+    bands("11-missing", None, 11, "file")
+    bands("11-empty", b"", 11, "file")
+    bands("11-length-15", trailer(1, 0, 0, 0)[1:], 11, "file")
+    bands("11-length-65536", BANDS.file(b"\0" * (65536 - 1936)), 11, "file")
+
+    bands("12-first-byte", BANDS.file(first=0x4C), 12, "file")
+    bands("12-second-byte", BANDS.file(second=0x4E), 12, "file")
+    bands("12-version-2", BANDS.file(version=2), 12, "file")
+    bands("12-first-zero-byte", BANDS.file(zeros=1), 12, "file")
+    bands("12-second-zero-byte", BANDS.file(zeros=256), 12, "file")
+    bands("12-before-13", BANDS.file(version=0, depth=0), 12, "file")
+
+    bands("13-depth-0", BANDS.file(depth=0), 13, "file")
+    bands("13-depth-9", BANDS.file(depth=9), 13, "file")
+    counter("13-257-constraints", example_proofs.counter(1, [FILLER] * 248), 13, "file")
+    bands("13-before-14", BANDS.file(constraints=65535, distance=1936), 13, "file")
+
+    bands("14-distance-one-less", BANDS.file(distance=1935), 14, "file")
+    bands("14-distance-one-more", BANDS.file(b"note", distance=1937), 14, "file")
+    bands("14-distance-high-byte", BANDS.file(distance=1936 + (1 << 24)), 14, "file")
+    bands("14-past-the-start", BANDS.file()[1:], 14, "file")
+    # 80 times 4,096 is 5 times 65,536
+    bands("14-lines-4096", trailer(1, 0, 0, 4096, distance=16), 14, "file")
+    counter("14-before-15", COUNTER.with_constraint(0, constraint([], 0, count=9)).file(distance=0), 14, "file")
+
+
+def of_constraints():
+    def extra(name, *constraints, number=9):
+        counter(f"15-{name}", COUNTER.more(constraints=constraints), 15, f"constraint {number}")
+
+    extra("bound-past-limit", constraint([], BOUND + 1))
+    extra("bound-past-negative-limit", constraint([], -BOUND - 1))
+    extra("coefficient-0", constraint([term(0, 0, 0)], 0))
+    extra("coefficient-past-limit", constraint([term(0, 0, COEFFICIENT + 1)], 0))
+    extra("coefficient-past-negative-limit", constraint([term(0, 0, -COEFFICIENT - 1)], 0))
+    extra("9-terms", constraint([term(s, o, 1) for o in (0, 1) for s in range(4)], 0, count=9))
+    extra("first-zero-byte", constraint([], 0, zeros=b"\1"))
+    extra("last-zero-byte", constraint([], 0, zeros=b"\0" * 6 + b"\1"))
+    extra("zero-byte-of-term", constraint([term(0, 0, 1, zero=1)], 0))
+    extra("offset-past-k", constraint([term(0, 2, 1)], 0))
+    extra("bool-stream", constraint([term(4, 0, 1)], 0))
+    extra("stream-is-n", constraint([term(5, 0, 1)], 0))
+    extra("stream-plus-256", constraint([term(256, 0, 1)], 0))
+    extra("streams-fall", constraint([term(1, 0, 1), term(0, 0, 1)], 0))
+    extra("offsets-fall", constraint([term(0, 1, 1), term(1, 0, 1)], 0))
+    extra("variable-twice", constraint([term(3, 1, 1), term(3, 1, 1)], 0))
+    extra("unused-stream", constraint([term(1, 0, 0)], 0, count=0))
+    extra("unused-last-coefficient", constraint([term(0, 0, 0)] * 7 + [term(0, 0, 1)], 0, count=0))
+    extra("lowest-of-two", FILLER, constraint([term(0, 2, 1)], 0), constraint([], 0, count=9), number=10)
+    extra("last-of-256", *[FILLER] * 246, constraint([], BOUND + 1), number=255)
+    wrong = COUNTER.with_constraint(8, constraint([term(4, 1, 1)], 0))
+    counter("15-before-any-line", wrong.changed(0, kind=0), 15, "constraint 8")
+
+
+def of_any_kind():
+    bands("16-kind-0", BANDS.changed(0, kind=0), 16, "line 0")
+    counter("16-kind-5", COUNTER.changed(3, kind=5), 16, "line 3")
+    bands("16-kind-255-in-step", BANDS.changed(12, kind=255), 16, "line 12")
+    bands("16-13-literals", BANDS.changed(4, count=13), 16, "line 4")
+    bands("16-255-literals-in-step", BANDS.changed(16, count=255), 16, "line 16")
+
+    # a join may have more literals, but each names an atom
+    for name, literal in (("offset-past-k", lit(0, 2)), ("stream-is-n", lit(6))):
+        bands(f"16-{name}", BANDS.changed(4, literals=(lit(0), literal)), 16, "line 4")
+    for name, literal in (("int-stream", lit(2)), ("constraint-is-m", on(9)), ("constraint-past-m", opp(on(255)))):
+        counter(f"16-{name}", COUNTER.changed(4, literals=(lit(4), opp(on(0)), literal)), 16, "line 4")
+    ring = example_proofs.ring()
+    refused("16-offset-9-of-depth-8", "ring", ring.changed(74, literals=(lit(0, 9),)), 16, "line 74")
+
+    for name, multipliers in (("0", (1, 0)), ("1000001", (1, MULTIPLIER + 1)), ("greatest", (2**32 - 1, 1))):
+        counter(f"16-multiplier-{name}", COUNTER.changed(3, multipliers=multipliers), 16, "line 3")
+
+    # what a kind or a count does not use
+    bands("16-equation-unlisted-literal", BANDS.changed(1, literals=(lit(5), lit(4), 1), count=2), 16, "line 1")
+    bands("16-equation-multiplier", BANDS.changed(1, multipliers=(1, 1)), 16, "line 1")
+    bands("16-property-p", BANDS.changed(0, p=5), 16, "line 0")
+    bands("16-property-r", BANDS.changed(12, r=256), 16, "line 12")
+    bands("16-property-unlisted-literal", BANDS.changed(0, literals=(11,) + (0,) * 10 + (11,), count=1), 16, "line 0")
+    bands("16-property-multiplier", BANDS.changed(12, multipliers=(1 << 24,)), 16, "line 12")
+    bands("16-join-unlisted-literal", BANDS.changed(11, literals=(lit(1),), count=0), 16, "line 11")
+    bands("16-join-last-multiplier", BANDS.changed(23, multipliers=(0,) * 11 + (1,)), 16, "line 23")
+    for field in "pqr":
+        counter(f"16-arithmetic-{field}", COUNTER.changed(3, **{field: 1}), 16, "line 3")
+    unlisted = (opp(on(0)), opp(on(1)), on(0))
+    counter("16-arithmetic-unlisted-literal", COUNTER.changed(3, literals=unlisted, count=2), 16, "line 3")
+    counter("16-arithmetic-unlisted-multiplier", COUNTER.changed(3, multipliers=(1, 1, 1)), 16, "line 3")
+
+    # before the number of the line's kind, and line by line
+    bands("16-before-17", BANDS.changed(1, p=6, multipliers=(1,)), 16, "line 1")
+    bands("16-before-18", BANDS.changed(0, q=1, r=1), 16, "line 0")
+    bands("16-before-19", BANDS.changed(2, p=2, literals=(lit(0, 2),)), 16, "line 2")
+    counter("16-before-20", COUNTER.changed(3, literals=(), multipliers=(1,)), 16, "line 3")
+    bands("19-at-line-2-before-16-at-line-5", BANDS.changed(2, p=2).changed(5, kind=0), 19, "line 2")
+
+
+def of_equations():
+    for name, i, fields in (
+            ("stream-is-n", 1, {"p": 6}), ("stream-plus-256", 13, {"p": 256 + 5}),
+            ("input", 3, {"p": 0, "literals": (lit(0),)}),
+            ("offset-k-in-base", 3, {"q": 1, "literals": (opp(lit(4, 1)), lit(0, 1))}),
+            ("offset-past-k-in-step", 13, {"q": 2}), ("offset-plus-256", 3, {"q": 256}),
+            ("no-such-clause", 1, {"r": 2, "literals": (opp(lit(5)), opp(lit(4)))}), ("no-clause-256", 1, {"r": 256}),
+            ("literals-in-another-order", 1, {"literals": (lit(4), lit(5))}), ("a-literal-less", 1, {"literals": (lit(5),)}),
+            ("another-offset", 13, {"literals": (lit(5, 1), lit(4))})):
+        bands(f"17-{name}", BANDS.changed(i, **fields), 17, f"line {i}")
+
+    # of true at offset 9, which is no offset: the literal is that of constraint 0
+    ring = example_proofs.ring()
+    refused("17-offset-9-of-depth-8", "ring", ring.more(Line(1, 0, 9, 0, (lit(0, 9),)), constraints=[FILLER]), 17, "line 94")
+    counter("17-constraint-of-another-content", COUNTER.changed(11, literals=(on(2),)), 17, "line 11")
+    counter("17-constraint-negated", COUNTER.changed(8, literals=(opp(lit(4)), opp(on(0)))), 17, "line 8")
+    counter("17-bound-one-off", COUNTER.with_constraint(4, constraint([term(1, 0, -1)], 0)), 17, "line 12")
+    counter("17-coefficient-one-off", COUNTER.with_constraint(3, constraint(
+        [term(1, 0, 2), term(2, 0, 1), term(3, 0, -1)], 0)), 17, "line 11")
+    counter("17-variable-one-instant-off", COUNTER.with_constraint(2, constraint(
+        [term(2, 0, -1), term(3, 0, 1)], 0)), 17, "line 10")
+    counter("17-pre-at-step-offset-0", COUNTER.changed(10, q=0, literals=(on(0),)), 17, "line 10")
+    # the arrow of stream 4 at step offset 0, where line 10 has it at 1; and at base offset 1 with its first operand
+    countdown = example_proofs.countdown(1)
+    refused("17-arrow-at-step-offset-0", "countdown", countdown.changed(10, q=0, literals=(on(0),)), 17, "line 10")
+    first = example_proofs.first()
+    refused("17-first-operand-later", "first", first.changed(6, literals=(opp(lit(2, 1)), lit(0, 1))), 17, "line 6")
+    refused("17-pre-one-offset-too-late", "delayed", DELAYED.changed(2, literals=(lit(1, 1), opp(lit(2, 1)))), 17, "line 2")
+
+
+def of_properties():
+    for name, i, fields in (
+            ("base-offset-1", 0, {"q": 1}), ("base-no-literal", 0, {"literals": ()}),
+            ("base-another-sign", 0, {"literals": (lit(5),)}), ("step-another-sign-at-k", 12, {"literals": (lit(5, 1),)}),
+            ("step-another-sign-below-k", 12, {"q": 0, "literals": (opp(lit(5)),)}),
+            ("step-above-k", 12, {"q": 2}), ("step-plus-256", 12, {"q": 257})):
+        bands(f"18-{name}", BANDS.changed(i, **fields), 18, f"line {i}")
+    bands("18-depth-8-of-depth-1", BANDS.file(depth=8), 18, "line 0")
+    for name, literals in (("misses-an-offset", (opp(lit(1)),)), ("falls", (opp(lit(1, 1)), opp(lit(1))))):
+        refused(f"18-base-{name}", "delayed", DELAYED.changed(0, literals=literals), 18, "line 0")
+    refused("18-certificate-of-another-node", "grant", BANDS, 18, "line 0")
+
+
+def of_joins():
+    def swapped(i, line):
+        """Line i after the one that follows it, which cites it."""
+        lines = BANDS.lines
+        return Certificate(1, [], lines[:i] + [line, lines[i]] + lines[i + 2:], 12)
+
+    four = (lit(4),)
+    bands("19-p-not-lower", swapped(1, Line(3, 2, 0, lit(5), four)), 19, "line 1")
+    bands("19-q-not-lower", swapped(1, Line(3, 0, 2, opp(lit(5)), four)), 19, "line 1")
+    bands("19-cites-itself", BANDS.changed(2, p=2, q=2, r=lit(4), literals=(lit(4), opp(lit(4)))), 19, "line 2")
+    bands("19-q-plus-256", BANDS.changed(4, q=256 + 3), 19, "line 4")
+    # the step's line 24 and the base's line 4, {0}
+    equation, left = Line(1, 2, 0, 1, (opp(lit(2)), opp(lit(0)))), (opp(lit(2)),)
+    bands("19-step-cites-base-by-p", BANDS.more(equation, Line(3, 4, 24, lit(0), left)), 19, "line 25")
+    bands("19-step-cites-base-by-q", BANDS.more(equation, Line(3, 24, 4, opp(lit(0)), left)), 19, "line 25")
+    bands("19-r-not-in-p", BANDS.changed(4, p=3, q=0, r=lit(5), literals=(opp(lit(4)), lit(0))), 19, "line 4")
+    bands("19-r-names-no-atom", BANDS.changed(2, r=65535), 19, "line 2")
+    bands("19-opposite-not-in-q", BANDS.changed(8, q=5, literals=(lit(2), opp(lit(4)), lit(3))), 19, "line 8")
+    bands("19-forgets-literal-of-p", BANDS.changed(2, p=1, q=0, r=lit(5), literals=()), 19, "line 2")
+    bands("19-forgets-literal-of-q", BANDS.changed(2, literals=()), 19, "line 2")
+    bands("19-other-sign-in-its-place", BANDS.changed(14, literals=(opp(lit(4, 1)),)), 19, "line 14")
+    # constraint 9 is equal to constraint 6, but another atom
+    counter("19-equal-constraint-is-another-atom", COUNTER.more(
+        Line(1, 0, 1, 0, (on(9),)), Line(3, 28, 15, on(9), COUNTER.lines[15].literals), constraints=[COUNTER.constraints[6]]),
+        19, "line 29")
+
+
+def of_arithmetic():
+    counter("20-no-literal", COUNTER.changed(3, literals=(), multipliers=()), 20, "line 3")
+    mixed = (opp(on(0)), opp(on(1)), lit(4))
+    counter("20-bool-literal", COUNTER.changed(3, literals=mixed, multipliers=(1, 1, 1)), 20, "line 3")
+    counter("20-coefficient-not-0", COUNTER.changed(3, multipliers=(1, 2)), 20, "line 3")
+    counter("20-another-offset", COUNTER.changed(24, literals=(opp(on(0)), opp(on(8)))), 20, "line 24")
+    counter("20-another-sign", COUNTER.changed(3, literals=(on(0), opp(on(1)))), 20, "line 3")
+
+    def extra(name, literals, multipliers, *constraints):
+        line = Line(4, literals=literals, multipliers=multipliers)
+        counter(f"20-{name}", COUNTER.more(line, constraints=constraints), 20, "line 28")
+
+    # constraint 0 and its converse, both with bound 0: opposites that sum to 0
+    extra("bound-0", (opp(on(0)), opp(on(9))), (1, 1), constraint([term(0, 0, -1), term(2, 0, 1)], 0))
+    # opposites "at most -1" and "at most 1"
+    extra("bound-0-of-negated", (on(0), on(9)), (1, 1), constraint([term(0, 0, -1), term(2, 0, 1)], -2))
+    extra("bound-2-to-the-31", (opp(on(9)),), (1,), constraint([], 1 << 31))
+    extra("coefficient-2-to-the-32", (opp(on(9)),), (1 << 16,), constraint([term(0, 0, 1 << 16)], -1))
+    extra("literals-repeated", (opp(on(0)), opp(on(1)), opp(on(0))), (1, 1, 1))
+
+
+def of_parts():
+    no_base = Proof(1)
+    no_base.begin_step()
+    example_proofs.two_bands_part(no_base, 1)
+    bands("21-no-lines", trailer(1, 0, 0, 0), 21, "base")
+    bands("21-no-base-lines", no_base.certificate(), 21, "base")
+    bands("21-no-step-lines", Certificate(1, [], BANDS.lines[:12], 12), 21, "step")
+    bands("21-no-empty-base-line", BANDS.changed(11, literals=(lit(1),)), 21, "base")
+    bands("21-no-empty-step-line", BANDS.changed(23, literals=(lit(1, 1),)), 21, "step")
+    bands("21-base-before-step", BANDS.changed(11, literals=(lit(1),)).changed(23, literals=(lit(1),)), 21, "base")
+    bands("16-in-step-before-21-no-base-lines", no_base.certificate().changed(0, kind=0), 16, "line 0")
+    bands("19-in-step-before-21-base", BANDS.changed(11, literals=(lit(1),)).changed(23, r=lit(1)), 19, "line 23")
+
+
+def start_only(proof):
+    """The base of the late nodes, whose property 3 begins true: {!3}, {3, !0}, {0}, joins {!0} and { }."""
+    proof.strike(proof.property(0, opp(lit(3))), proof.equation(3, 0, 1, lit(3), opp(lit(0))), proof.equation(0, 0, 0, lit(0)))
+
+
+def as_instant_0():
+    """Step offset 0 taken for instant 0, where 2 is true: line 7."""
+    proof = Proof(1)
+    start_only(proof)
+    proof.begin_step()
+    proof.strike(proof.property(1, opp(lit(3, 1))), proof.equation(3, 1, 1, lit(3, 1), opp(lit(2))),
+                 proof.equation(2, 0, 1, lit(2), opp(lit(0))), proof.equation(0, 0, 0, lit(0)))
+    return proof.certificate()
+
+
+def base_for_step():
+    """The step's line 6 joins the base's {!0} and {0}."""
+    proof = Proof(1)
+    start_only(proof)
+    proof.begin_step()
+    proof.property(1, opp(lit(3, 1)))
+    proof.join(3, 2, opp(lit(0)))
+    return proof.certificate()
+
+
+def both_signs_struck():
+    """{1, 0} and {!1, !0} join to {0, !0}, and that line with itself, 0 struck with both signs, to { }: line 3."""
+    def prove(proof, o):
+        either, neither = proof.equation(1, o, 0, lit(1, o), lit(0, o)), proof.equation(1, o, 1, opp(lit(1, o)), opp(lit(0, o)))
+        both = proof.join(either, neither, lit(1, o))
+        proof.add(3, (), p=both, q=both, r=lit(0, o))
+
+    return example_proofs.at_one_offset(prove)
+
+
+def false_turns():
+    """The properties of the late nodes and of the wish fail. The counter's holds, but not by lines that drop the -1."""
+    true, start = rec(1, BOOL, k=1), rec(13, BOOL, 0, 2)
+    # 3 = true -> pre 2 fails at instant 2, where 2 = true -> pre 1 or true -> 1, an input
+    NODES["late"] = node([true, INPUT, rec(13, BOOL, 0, 1), start], 3)
+    NODES["late-arrow"] = node([true, INPUT, rec(12, BOOL, 0, 1), start], 3)
+    NODES["wish"] = node([INPUT, rec(2, BOOL, 0)], 1)
+    refused("false-turn-step-offset-0-as-instant-0", "late", as_instant_0(), 17, "line 7")
+    refused("false-turn-step-offset-0-as-instant-0-of-arrow", "late-arrow", as_instant_0(), 17, "line 7")
+    not_below = constraint([term(0, 0, -1), term(2, 0, 1)], 0)
+    counter("false-turn-minus-1-dropped-in-clause", COUNTER.with_constraint(1, not_below), 17, "line 2")
+    counter("false-turn-minus-1-dropped-in-sum", COUNTER.changed(3, literals=(opp(on(0)), opp(on(9)))).more(
+        constraints=[not_below]), 20, "line 3")
+    refused("false-turn-both-signs-struck", "wish", both_signs_struck(), 19, "line 3")
+    refused("false-turn-step-cites-base", "late", base_for_step(), 19, "line 6")
+
+
+def main():
+    for cases in (whole_proofs, allowed, of_the_node, of_the_file, of_constraints, of_any_kind, of_equations, of_properties,
+                  of_joins, of_arithmetic, of_parts, false_turns):
+        cases()
+    nodes = {f"{name}.node": data for name, data in NODES.items()}
+    write_data("check_pairs", {**nodes, **{name: data for _, name, data, _ in CASES}})
+    write_lines("check_pairs", "args", [name for pair in CASES for name in pair[:2]])
+    write_lines("check_pairs", "stdout", [f"{name}: {says}" for _, name, _, says in CASES])
+
+    (ROOT / "examples" / "two-bands" / "cert.bin").write_bytes(BANDS.file())
+    write_data("check_certificate", {"node.bin": NODES["two-bands"], "cert.bin": BANDS.file()})
+    write_lines("check_certificate", "stdout", ["accepted depth 1 base 12 step 12"])
+    print(f"{len(CASES)} pairs")
+
+
+main()

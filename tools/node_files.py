@@ -1,0 +1,68 @@
+"""Writers of node files, field by field, right or wrong; and of the folder of a program that is run on files."""
+import pathlib
+import shutil
+import struct
+
+ROOT = pathlib.Path(__file__).resolve().parent.parent
+BOOL, INT = 0, 1
+
+
+def rec(op, kind, a=0, b=0, c=0, k=0, rest=0):
+    return struct.pack("<BBHHHiI", op, kind, a, b, c, k, rest)
+
+
+def trailer(n, prop, distance=None, first=0x4C, second=0x4E, version=1, zero=0, rest=0):
+    if distance is None:
+        distance = 16 + 16 * n
+    return struct.pack("<BBBBHHII", first, second, version, zero, n, prop, distance, rest)
+
+
+def node(records, prop, note=b"", **fields):
+    n = fields.pop("n", len(records))
+    return note + b"".join(records) + trailer(n, prop, **fields)
+
+
+def replaced(items, i, item):
+    return items[:i] + [item] + items[i + 1:]
+
+
+INPUT = rec(0, BOOL)
+# 0, 1 inputs; 2 not 0; 3 = 1 and 2; 4 = 0 and 3; 5 not 4, the property
+TWO_BANDS = [INPUT, INPUT, rec(2, BOOL, 0), rec(3, BOOL, 1, 2), rec(3, BOOL, 0, 3), rec(2, BOOL, 4)]
+# every operator, and both types of 0, 1, 11, 12 and 13
+ALL = [
+    rec(0, BOOL),                       # 0
+    rec(0, INT),                        # 1
+    rec(1, BOOL, k=1),                  # 2
+    rec(1, INT, k=-7),                  # 3
+    rec(2, BOOL, 0),                    # 4
+    rec(3, BOOL, 0, 4),                 # 5
+    rec(4, BOOL, 2, 5),                 # 6
+    rec(5, BOOL, 0, 6),                 # 7
+    rec(6, INT, 1, 3),                  # 8
+    rec(7, INT, 8, 1),                  # 9
+    rec(8, INT, 9, k=3),                # 10
+    rec(9, BOOL, 1, 10),                # 11
+    rec(10, BOOL, 8, 9),                # 12
+    rec(11, BOOL, 4, 5, 12),            # 13
+    rec(11, INT, 8, 9, 11),             # 14
+    rec(12, BOOL, 2, 13),               # 15
+    rec(12, INT, 3, 14),                # 16
+    rec(13, BOOL, 2, 17),               # 17, of itself one instant before
+    rec(13, INT, 3, 19),                # 18, of a later record
+    rec(6, INT, 18, 1),                 # 19
+]
+
+
+def write_data(crate, files):
+    """The crate's data folder holds these files, by name, and no others; a file that is None is not there."""
+    data = ROOT / "crates" / crate / "data"
+    shutil.rmtree(data, ignore_errors=True)
+    data.mkdir(parents=True)
+    for name, content in files.items():
+        if content is not None:
+            (data / name).write_bytes(content)
+
+
+def write_lines(crate, name, lines):
+    (ROOT / "crates" / crate / name).write_text("".join(f"{line}\n" for line in lines))
