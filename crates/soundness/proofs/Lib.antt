@@ -5,6 +5,7 @@ pub mod ClauseForms
 pub mod ClauseLines
 pub mod ClausesHold
 pub mod ClausesNamed
+pub mod Demands
 pub mod EquationLines
 pub mod Joins
 pub mod LiteralMatches

@@ -1,3 +1,4 @@
+pub mod Demands
 pub mod Satisfaction
 pub mod Theorems
 pub mod Windows

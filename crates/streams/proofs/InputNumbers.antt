@@ -55,7 +55,7 @@ inputs-rise s i (suc j) e l = go (eq-or-lt-of-le (le-of-suc-le-suc l)) (inputs-r
     go (inr m) h = more (isInput s j) (h m)
 
 module _ (s : List ℕ) {node : NodeValues} (e : verdictOf s ≡ accepted node) (i : ℕ) (l : i < streamsOf s) (is-input : equationAt s i ≡ Input) where
-  operator-0 : isInput s i ≡ true
+  pub operator-0 : isInput s i ≡ true
   operator-0 = input-operator (recordOf s i) (operator-in-table (recordOf s i) (accepted-keeps s e .shapes i l)) is-input
 
   -- an input that stands later has a higher number

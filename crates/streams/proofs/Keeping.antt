@@ -26,7 +26,7 @@ Keeps node Q inputs first =
     (s : ℕ) → s < node .streams → (past present : Values) → ReadsKeep Q first past present (reads (node .equations s)) → Q s (row node inputs first past s present)
 
 module _ (node : Node) (rank : ℕ → ℕ) (ranked : Ranked node rank) (Q : ℕ → ℤ → Type 0) where
-  instant-keeps : (inputs : List ℤ) (first : Bool) (p v : Values) → Keeps node Q inputs first → Rows node inputs first p v → (first ≡ false → (s : ℕ) → s < node .streams → Q s (p s)) → (k s : ℕ) → s < node .streams → rank s < k → Q s (v s)
+  pub instant-keeps : (inputs : List ℤ) (first : Bool) (p v : Values) → Keeps node Q inputs first → Rows node inputs first p v → (first ≡ false → (s : ℕ) → s < node .streams → Q s (p s)) → (k s : ℕ) → s < node .streams → rank s < k → Q s (v s)
   instant-keeps inputs first p v keeps rows past zero s l h = absurd (not-suc-le-zero h)
   instant-keeps inputs first p v keeps rows past (suc k) s l h =
       subst (Q s) (sym (rows s l))

@@ -1,0 +1,9 @@
+pub mod Answering
+pub mod Beginnings
+pub mod InputTests
+pub mod Judging
+pub mod Nodes
+pub mod Sessions
+pub mod Showing
+pub mod Standing
+pub mod Steps

@@ -1,0 +1,44 @@
+-- Every list of an instant's calls from an answered beginning shows the solution's values, and every call after it is answered
+-- exactly where it should be.
+-- Assumes nothing.
+use mathlib.Core.Path.{_≡_, sym, subst}
+use mathlib.Core.List.{List, [], _∷_, _++_, append-nil, append-assoc}
+use Prim.Native.Nat.{ℕ}
+use Rattle.answers.specs.Answer.{accepted, NodeValues}
+use Rattle.node.specs.Verdict.{verdictOf}
+use Rattle.session.specs.declared.Session.{Session}
+use Rattle.session.specs.Lists.{Call, Answered, answerTo, after, afterAll, answered}
+use Rattle.session.specs.Records.{begun, ifAccepted}
+use Rattle.session.specs.Theorems.{Shows, Exact, SessionsExact}
+use Rattle.session.proofs.Answering.{never-30, accepted-right, answered-inside, refused-outside}
+use Rattle.session.proofs.Beginnings.{begun-is, begun-stands}
+use Rattle.session.proofs.Judging.{judged}
+use Rattle.session.proofs.Standing.{Standing}
+use Rattle.session.proofs.Steps.{told, step-stands, refused-keeps}
+
+module _ (file : List ℕ) {node : NodeValues} (e : verdictOf file ≡ accepted node) where
+  -- a list of calls keeps what stands
+  pub calls-stand : (calls : List Call) (done : List Answered) (s : Session) → Standing file done s → Standing file (done ++ answered s calls) (afterAll s calls)
+  unfolding answered afterAll
+  calls-stand [] done s stands = rw (append-nil done) stands
+  calls-stand (c ∷ calls) done s stands =
+      subst (λ (l : List Answered). Standing file l (afterAll (after s c) calls)) (append-assoc done (ifAccepted (answerTo s c) (told s c ∷ []) []) (answered (after s c) calls))
+      (calls-stand calls (done ++ ifAccepted (answerTo s c) (told s c ∷ []) []) (after s c) (step-stands file e done s stands c))
+
+  -- where a session stands, every call is exact
+  pub standing-exact : (done : List Answered) (s : Session) → Standing file done s → (c : Call) → Exact file s done c
+  standing-exact done s stands c =
+      record {
+        not-30 = never-30 file e done s stands c;
+        right = accepted-right file e done s stands c;
+        judged = judged file e done (stands .shows) c;
+        answers = answered-inside file e done s stands c;
+        size = refused-outside file e done s stands c;
+        keeps = refused-keeps s c;
+      }
+
+pub sessions-exact : SessionsExact
+sessions-exact file node e before calls =
+    subst (λ (s : Session). Shows file (answered s calls) × ((c : Call) → Exact file (afterAll s calls) (answered s calls) c)) (sym (begun-is file e before))
+    (let stands = calls-stand file e calls [] (begun file) (begun-stands file e) in
+    (stands .shows, standing-exact file e (answered (begun file) calls) (afterAll (begun file) calls) stands))

@@ -1,0 +1,112 @@
+-- What stands between the calls of a session: the record holds the node, and the last answered values are the solution's. So 30
+-- refuses no call, and the values that a call works out are the solution's too.
+-- Assumes nothing.
+use mathlib.Core.Path.{_≡_, refl, sym, _∙_, ap, subst}
+use mathlib.Core.Bool.{Bool, true, false, not, _||_}
+use mathlib.Core.List.{List}
+use Prim.Native.Nat.{ℕ, zero, suc, _<_, _≤_}
+use native.Mathlib.Nat.{lt-suc-self}
+use native.Mathlib.Omega.{arith}
+use borrow.Author.Tests.{le-leb}
+use lib.IntN.{ℤ}
+use lib.ListN.{length}
+use Rattle.answers.specs.Answer.{accepted, NodeValues}
+use Rattle.answers.specs.Checks.{every}
+use Rattle.node.specs.Equations.{kindAt}
+use Rattle.node.specs.Layout.{streamsOf}
+use Rattle.node.specs.Note.{withoutNote}
+use Rattle.node.specs.Verdict.{verdictOf}
+use Rattle.node.proofs.WellFormedness.{accepted-well-formed}
+use Rattle.node.proofs.WithoutNote.{without-note-accepted}
+use Rattle.streams.specs.Evaluation.{upTo, instant}
+use Rattle.streams.specs.Nodes.{Node, nodeOf, WellFormedNode}
+use Rattle.streams.specs.Solutions.{Streams, isFirst, before, Solution}
+use Rattle.streams.specs.Typing.{Fits, fitsTest, Inputs, TypedInstant}
+use Rattle.streams.specs.Values.{valuesIn}
+use Rattle.streams.proofs.Agreement.{Rows, SamePast}
+use Rattle.streams.proofs.Evaluations as Evaluations
+use Rattle.streams.proofs.Keeping.{instant-keeps}
+use Rattle.streams.proofs.Numbers.{fits-test}
+use Rattle.streams.proofs.Orders.{byNumber, ranked-by-number, record-order}
+use Rattle.streams.proofs.Types.{types-kept}
+use Rattle.session.specs.declared.Session.{Session}
+use Rattle.session.specs.Instants.{workedOut}
+use Rattle.session.specs.Lists.{Answered}
+use Rattle.session.specs.Records.{held, lastFits, holdsNode}
+use Rattle.session.specs.Theorems.{StartsWith, Shows}
+use Rattle.session.proofs.Nodes.{node-same}
+
+-- the session s on the file, after the answered calls of `done`
+pub record Standing (file : List ℕ) (done : List Answered) (s : Session) : Type 0 where
+  pub holds : held s ≡ withoutNote file
+  pub short : s .length ≤ 1040
+  pub first : isFirst (length done) ≡ not (s .started)
+  -- the last answered values are those of every solution on inputs that start with the answered ones
+  pub last :
+      (u : Inputs) → StartsWith done (length done) u
+      → (v : Streams) → Solution (nodeOf file) u v
+      → SamePast (nodeOf file) (not (s .started)) (valuesIn (s .last)) (before v (length done))
+  pub fits : not (s .started) ≡ false → (i : ℕ) → i < streamsOf file → Fits (kindAt file i) (valuesIn (s .last) i)
+  pub shows : Shows file done
+
+every-of : (ok : ℕ → Bool) (n : ℕ) → ((k : ℕ) → k < n → ok k ≡ true) → every ok n ≡ true
+unfolding every
+every-of ok zero h = refl
+every-of ok (suc n) h = rw (every-of ok n (λ k l. h k (omega arith)), h n (lt-suc-self n))
+
+module _ (file : List ℕ) {node : NodeValues} (e : verdictOf file ≡ accepted node) (done : List Answered) (s : Session) (stands : Standing file done s) where
+  wf : WellFormedNode (nodeOf file)
+  wf = accepted-well-formed file e
+
+  pub held-node : nodeOf (held s) ≡ nodeOf file
+  held-node = ap nodeOf (stands .holds) ∙ node-same file e
+
+  last-fits : not (s .started) ≡ false → every (lastFits s) (streamsOf (held s)) ≡ true
+  last-fits past =
+      ap (λ (n : Node). every (λ i. fitsTest (n .kinds i) (valuesIn (s .last) i)) (n .streams)) held-node
+      ∙ every-of (λ i. fitsTest (kindAt file i) (valuesIn (s .last) i)) (streamsOf file)
+      (λ i l. fits-test (kindAt file i) (valuesIn (s .last) i) .1 (stands .fits past i l))
+
+  -- 30 passes
+  pub holds-node : holdsNode s ≡ true
+  unfolding holdsNode
+  holds-node =
+      rw (le-leb (s .length) 1040 (stands .short), ap verdictOf (stands .holds) ∙ without-note-accepted file e) (go (not (s .started)) refl)
+    where
+      go : (b : Bool) → not (s .started) ≡ b → (b || every (lastFits s) (streamsOf (held s))) ≡ true
+      go true past = refl
+      go false past = last-fits past
+
+  module _ (inputs : List ℤ) where
+    worked-out-by : workedOut s inputs ≡ instant (nodeOf file) (upTo (streamsOf file)) inputs (not (s .started)) (s .last)
+    unfolding workedOut
+    worked-out-by = ap (λ (n : Node). instant n (upTo (n .streams)) inputs (not (s .started)) (s .last)) held-node
+
+    pub worked-out-length : length (workedOut s inputs) ≡ streamsOf file
+    worked-out-length =
+        ap length worked-out-by
+        ∙ Evaluations.instant-length (nodeOf file) (upTo (streamsOf file)) inputs (not (s .started)) (s .last)
+
+    worked-out-rows : Rows (nodeOf file) inputs (not (s .started)) (valuesIn (s .last)) (valuesIn (workedOut s inputs))
+    worked-out-rows =
+        subst (λ (l : List ℤ). Rows (nodeOf file) inputs (not (s .started)) (valuesIn (s .last)) (valuesIn l)) (sym worked-out-by)
+        (Evaluations.instant-rows (nodeOf file) byNumber (upTo (streamsOf file)) (record-order (nodeOf file) wf) inputs (not (s .started)) (s .last))
+
+    -- every value worked out from typed inputs fits its type
+    pub worked-out-fits : TypedInstant (nodeOf file) inputs → (i : ℕ) → i < streamsOf file → Fits (kindAt file i) (valuesIn (workedOut s inputs) i)
+    worked-out-fits typed i l =
+        instant-keeps (nodeOf file) byNumber (ranked-by-number (nodeOf file) wf) (λ k. Fits (kindAt file k)) inputs (not (s .started)) (valuesIn (s .last)) (valuesIn (workedOut s inputs))
+        (types-kept (nodeOf file) wf inputs typed (not (s .started)))
+        worked-out-rows (stands .fits) (suc i) i l (lt-suc-self i)
+
+    -- the values worked out are those of every solution on inputs that go on with these
+    pub worked-out-is : (u : Inputs) → StartsWith done (length done) u → u (length done) ≡ inputs → (v : Streams) → Solution (nodeOf file) u v → (i : ℕ) → i < streamsOf file → valuesIn (workedOut s inputs) i ≡ v (length done) i
+    worked-out-is u starts own v solves i l =
+        ap (λ (k : List ℤ). valuesIn k i) worked-out-by
+        ∙ Evaluations.instant-is (nodeOf file) byNumber (upTo (streamsOf file)) (record-order (nodeOf file) wf) inputs (not (s .started)) (s .last) (before v (length done)) (v (length done))
+        (stands .last u starts v solves) rows i l
+      where
+        rows : Rows (nodeOf file) inputs (not (s .started)) (before v (length done)) (v (length done))
+        rows =
+            subst (λ (first : Bool). Rows (nodeOf file) inputs first (before v (length done)) (v (length done))) (stands .first)
+            (subst (λ (k : List ℤ). Rows (nodeOf file) k (isFirst (length done)) (before v (length done)) (v (length done))) own (solves .holds (length done)))

@@ -1,0 +1,54 @@
+-- The outcome of an instant's call: answer, record and slice. "Every refusal leaves session and slices as before the call."
+use Prim.Native.Nat.{ℕ}
+use mathlib.Core.List.{List}
+use mathlib.Core.Bool.{Bool, true, not, _||_}
+use lib.Dec.{eqb}
+use lib.IntN.{ℤ, pos}
+use lib.ListN.{length}
+use Rattle.integers.specs.Range.{inside}
+use Rattle.answers.specs.declared.Place.the-variants.{File, Record as AtRecord}
+use Rattle.answers.specs.Answer.{Answer, accepted}
+use Rattle.answers.specs.Checks.{check, checkAll, lowest}
+use Rattle.node.specs.Equations.{kindAt}
+use Rattle.node.specs.Inputs.{isInput, inputCount}
+use Rattle.node.specs.Layout.{streamsOf}
+use Rattle.streams.specs.Evaluation.{upTo, instant}
+use Rattle.streams.specs.Nodes.{nodeOf}
+use Rattle.streams.specs.Typing.{fitsTest, given}
+use Rattle.streams.specs.Values.{valuesIn}
+use Rattle.session.specs.declared.Session.{Session}
+use Rattle.session.specs.Records.{held, holdsNode, filled, ifAccepted}
+
+-- 33: "bool input not 0 or 1", of record i
+unfoldable pub inputFits : (file : List ℕ) → (inputs : List ℤ) → (i : ℕ) → Bool
+inputFits file inputs i = not (isInput file i) || fitsTest (kindAt file i) (given (nodeOf file) inputs i)
+
+-- "All n streams are worked out, untaken branches too", over whole numbers
+unfoldable pub workedOut : Session → (inputs : List ℤ) → List ℤ
+workedOut s inputs = instant (nodeOf (held s)) (upTo (streamsOf (held s))) inputs (not (s .started)) (s .last)
+
+-- 34: "value outside −2^63 to 2^63 − 1", of stream i
+unfoldable pub valueFits : Session → (inputs : List ℤ) → (i : ℕ) → Bool
+valueFits s inputs i = inside (valuesIn (workedOut s inputs) i)
+
+-- 30 to 34 in order, for a slice of `room` values
+unfoldable pub answerOf : Session → (inputs : List ℤ) → (room : ℕ) → Answer (Unit {0})
+answerOf s inputs room =
+    check (holdsNode s) 30 File
+    (check (eqb (length inputs) (inputCount (held s))) 31 File
+    (check (eqb room (streamsOf (held s))) 32 File
+    (checkAll (lowest (inputFits (held s) inputs) (streamsOf (held s))) 33 AtRecord
+    (checkAll (lowest (valueFits s inputs) (streamsOf (held s))) 34 AtRecord
+    (accepted tt)))))
+
+-- the record that an answered call leaves
+abbrev pub movedOn : Session → (inputs : List ℤ) → Session
+movedOn s inputs =
+    record { file = s .file; length = s .length; started = true; last = filled 64 (pos 0) (workedOut s inputs) }
+
+unfoldable pub sessionOf : Session → (inputs : List ℤ) → (room : ℕ) → Session
+sessionOf s inputs room = ifAccepted (answerOf s inputs room) (movedOn s inputs) s
+
+-- what the slice holds after the call
+unfoldable pub sliceOf : Session → (inputs slice : List ℤ) → List ℤ
+sliceOf s inputs slice = ifAccepted (answerOf s inputs (length slice)) (workedOut s inputs) slice

@@ -1,0 +1,4 @@
+pub mod Instants
+pub mod Lists
+pub mod Records
+pub mod Theorems

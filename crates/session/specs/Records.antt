@@ -1,0 +1,58 @@
+-- The session record: "The caller lends the session record, and an answered instant moves that very record on."
+use Prim.Native.Nat.{ℕ, _-_}
+use mathlib.Core.List.{List, _++_}
+use mathlib.Core.Bool.{Bool, true, false, not, _&&_, _||_}
+use lib.Dec.{leb}
+use lib.IntN.{ℤ, pos}
+use lib.ListN.{length, take, replicate}
+use Rattle.answers.specs.Answer.{Answer, accepted, refused, NodeValues}
+use Rattle.answers.specs.Checks.{every}
+use Rattle.node.specs.Equations.{kindAt}
+use Rattle.node.specs.Layout.{streamsOf}
+use Rattle.node.specs.Note.{withoutNote}
+use Rattle.node.specs.Verdict.{verdictOf}
+use Rattle.streams.specs.Typing.{fitsTest}
+use Rattle.streams.specs.Values.{valuesIn}
+use Rattle.session.specs.declared.Session.{Session}
+
+-- a list with as many of z after it as fill n places
+abbrev pub filled : {A : Type 0} → (n : ℕ) → (z : A) → List A → List A
+filled n z l = l ++ replicate (n - length l) z
+
+-- "Beginning takes a node file .. and sets the record to its node, before instant 0." What the last values are before instant 0 is
+-- free in the paper: they are 0.
+abbrev pub begun : (file : List ℕ) → Session
+begun file =
+    record {
+      file = filled 1040 0 (withoutNote file);
+      length = length (withoutNote file);
+      started = false;
+      last = replicate 64 (pos 0);
+    }
+
+-- what an accepted answer gives, or what a refusal keeps
+abbrev pub ifAccepted : {A S : Type 0} → Answer A → (moved kept : S) → S
+ifAccepted (accepted a) moved kept = moved
+ifAccepted (refused number place) moved kept = kept
+
+-- the record after a beginning: "checked by 1 to 8"
+unfoldable pub begunOf : (file : List ℕ) → (before : Session) → Session
+begunOf file before = ifAccepted (verdictOf file) (begun file) before
+
+-- the node file that the record holds
+abbrev pub held : Session → List ℕ
+held s = take (s .length) (s .file)
+
+abbrev pub isAccepted : {A : Type 0} → Answer A → Bool
+isAccepted a = ifAccepted a true false
+
+-- stream i of the last answered instant fits its type
+abbrev pub lastFits : Session → (i : ℕ) → Bool
+lastFits s i = fitsTest (kindAt (held s) i) (valuesIn (s .last) i)
+
+-- 30: "record holds no node passing 1 to 8, or, past instant 0, a bool of the last answered instant is not 0 or 1"
+unfoldable pub holdsNode : Session → Bool
+holdsNode s =
+    leb (s .length) 1040
+    && isAccepted (verdictOf (held s))
+    && (not (s .started) || every (lastFits s) (streamsOf (held s)))

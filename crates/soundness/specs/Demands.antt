@@ -1,0 +1,38 @@
+-- Demand 3, whole: what an accepted certificate gives of its node, of a beginning on it, and of every list of calls after that.
+use Prim.Native.Nat.{ℕ, _<_}
+use mathlib.Core.Path.{_≡_}
+use mathlib.Core.List.{List}
+use lib.IntN.{pos}
+use lib.ListN.{length}
+use Rattle.answers.specs.Answer.{accepted, CertificateValues}
+use Rattle.node.specs.Layout.{streamsOf, propertyOf}
+use Rattle.node.specs.Verdict.{verdictOf as nodeVerdict}
+use Rattle.certificate.specs.Verdict.{verdictOf}
+use Rattle.streams.specs.Theorems.{OneSolution}
+use Rattle.streams.specs.Values.{valuesIn}
+use Rattle.session.specs.declared.Session.{Session}
+use Rattle.session.specs.Lists.{Call, Answered, answered, call}
+use Rattle.session.specs.Records.{begunOf}
+use Rattle.session.specs.Theorems.{Shows}
+use Rattle.soundness.specs.Theorems.{PropertyHolds}
+
+-- "the property's number is 1", in every answered call's slice
+abbrev pub ShowsProperty : (node : List ℕ) → List Answered → Type 0
+ShowsProperty node done = (t : ℕ) → t < length done → valuesIn (call done t .values) (propertyOf node) ≡ pos 1
+
+pub record Demanded (node : List ℕ) (before : Session) (calls : List Call) : Type 0 where
+  -- "under every endless typed inputs the equations have exactly one solution over unbounded whole numbers"
+  pub one-solution : OneSolution node
+  -- "the property is true at all instants"
+  pub property : PropertyHolds node
+  -- the beginning is answered, whatever the record held before it
+  pub begins : nodeVerdict node ≡ accepted (record { streams = streamsOf node; property = propertyOf node })
+  -- "every list of instant calls from a just begun session shows that solution's values, as one claim about the whole list"
+  pub shows : Shows node (answered (begunOf node before) calls)
+  pub shows-property : ShowsProperty node (answered (begunOf node before) calls)
+
+-- "whatever bytes the two files hold"
+abbrev pub Demand3 : Type 0
+Demand3 =
+    (node cert : List ℕ) (v : CertificateValues) → verdictOf node cert ≡ accepted v
+    → (before : Session) (calls : List Call) → Demanded node before calls
