@@ -15,3 +15,4 @@ pub mod PropertyLines
 pub mod Search
 pub mod SolutionWindows
 pub mod Soundness
+pub mod StarredCases

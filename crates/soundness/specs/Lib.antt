@@ -1,4 +1,6 @@
 pub mod Demands
+pub mod Files
 pub mod Satisfaction
+pub mod Starred
 pub mod Theorems
 pub mod Windows

@@ -7,5 +7,4 @@ pub mod Numbers
 pub mod Orders
 pub mod Reading
 pub mod Results
-pub mod StarredCases
 pub mod Types

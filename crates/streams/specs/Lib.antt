@@ -1,9 +1,7 @@
 pub mod Evaluation
-pub mod Files
 pub mod Meaning
 pub mod Nodes
 pub mod Solutions
-pub mod Starred
 pub mod Theorems
 pub mod Typing
 pub mod Values

@@ -1,0 +1,118 @@
+-- The starred cases: what is claimed of each is computed, or follows from what is computed.
+-- Assumes nothing.
+use mathlib.Core.Path.{_≡_, refl, sym, _∙_, ap}
+use mathlib.Core.List.{List, [], _∷_}
+use Prim.Native.Nat.{ℕ}
+use native.Mathlib.Nat.{not-suc-le-zero}
+use lib.IntN.{ℤ, pos}
+use lib.ListN.{length, replicate, length-replicate}
+use Rattle.integers.specs.Range.{inside}
+use Rattle.fields.specs.Fields.{twosComplement}
+use Rattle.answers.specs.declared.Place.the-variants.{File, Record as AtRecord, Line as AtLine, Base}
+use Rattle.answers.specs.Answer.{Answer, accepted, refused, NodeValues}
+use Rattle.answers.specs.Checks.{lowest, every}
+use Rattle.node.specs.Equations.{kindAt, decoded}
+use Rattle.node.specs.Inputs.{inputsBelow}
+use Rattle.node.specs.Layout.{streamsOf, recordsOf, recordOf}
+use Rattle.node.specs.Note.{noteLength}
+use Rattle.node.specs.Rules.{lengthOk, fixedOk, countsOk, distanceOk, unusedOk, shapeOk, operandsOk, typesOk, propertyOk}
+use Rattle.node.specs.Table.{rowOf}
+use Rattle.node.specs.Verdict.{recordsVerdict, verdictOf as nodeVerdict}
+use Rattle.constraints.specs.Linear.{written}
+use Rattle.constraints.specs.Rules.{fixedOk as certFixed, countsOk as certCounts, distanceOk as certDistance, constraintOk, termOk, usedOk, rises, unusedOk as termUnused}
+use Rattle.clauses.specs.Literals.{namesAtom}
+use Rattle.arithmetic.specs.Arithmetic.{sumOf, arithmeticOk}
+use Rattle.certificate.specs.Joins.{standsFrom, joins, joinOk}
+use Rattle.certificate.specs.Lines.{slotOk, numbersOk, shapeOk as lineShape, basePropertyOk, stepPropertyOk, clauseIs, equationIn, kindOk}
+use Rattle.certificate.specs.Verdict.{shapePasses, kindPasses, linesVerdict, constraintsVerdict, certificateVerdict, verdictOf}
+use Rattle.streams.specs.Evaluation.{upTo, evaluated, instant}
+use Rattle.streams.specs.Values.{equals, truth, valuesIn}
+use Rattle.session.specs.Instants.{inputFits, workedOut, valueFits, answerOf, sliceOf}
+use Rattle.session.specs.Lists.{Call}
+use Rattle.session.specs.Records.{begun, holdsNode, ifAccepted}
+use Rattle.session.proofs.Answering.{accepted-right}
+use Rattle.session.proofs.Beginnings.{begun-stands}
+use Rattle.session.proofs.Standing.{worked-out-is}
+use Rattle.soundness.specs.Files.{rec, nodeFile, noughts, minusOne, atMost, line, certificateFile}
+use Rattle.soundness.specs.Starred.{FirstCall, Answers, checks, reads, refuses, twoBands, doubling, ofSize, twoInts, opposites, constantTrue, ofDepth, withoutLines, bothAsked, greatestDoubled, leastDoubled, cases, Holds, Starred}
+
+-- what is computed of a first call: the verdict on its file, the answer and the values
+record Computed (c : FirstCall) : Type 0 where
+  node : NodeValues
+  is-accepted : nodeVerdict (c .file) ≡ accepted node
+  answered : answerOf (begun (c .file)) (c .inputs) (streamsOf (c .file)) ≡ accepted tt
+  values : workedOut (begun (c .file)) (c .inputs) ≡ c .values
+
+-- the rest is what holds of every just begun session
+answers-by : (c : FirstCall) → Computed c → Answers c
+unfolding sliceOf
+answers-by c known =
+    let file = c .file in
+    let s = begun file in
+    let n = streamsOf file in
+    let stands = begun-stands file (known .is-accepted) in
+    let own : Call = record { inputs = c .inputs; slice = replicate n (pos 0) } in
+    record {
+      node = known .node;
+      is-accepted = known .is-accepted;
+      typed =
+          accepted-right file (known .is-accepted) [] s stands own
+          (ap (answerOf s (c .inputs)) (length-replicate n (pos 0)) ∙ known .answered)
+          .typed;
+      answered = known .answered;
+      left = λ slice long.
+          ap (λ (a : Answer (Unit {0})). ifAccepted a (workedOut s (c .inputs)) slice) (ap (answerOf s (c .inputs)) long ∙ known .answered)
+          ∙ known .values;
+      solved = λ u v solves start i l.
+          ap (λ (values : List ℤ). valuesIn values i) (sym (known .values))
+          ∙ worked-out-is file (known .is-accepted) [] s stands (c .inputs) u (λ j m. absurd (not-suc-le-zero m)) start v solves i l;
+    }
+
+both-asked : Computed bothAsked
+unfolding twoBands rec nodeFile nodeVerdict recordsVerdict lengthOk fixedOk countsOk distanceOk lowest shapeOk unusedOk operandsOk typesOk propertyOk rowOf recordsOf recordOf twosComplement every kindAt decoded inputsBelow noteLength upTo evaluated instant equals truth inputFits workedOut valueFits answerOf holdsNode inside
+both-asked = record { node = record { streams = 6; property = 5 }; is-accepted = refl; answered = refl; values = refl }
+
+greatest-doubled : Computed greatestDoubled
+unfolding doubling rec nodeFile nodeVerdict recordsVerdict lengthOk fixedOk countsOk distanceOk lowest shapeOk unusedOk operandsOk typesOk propertyOk rowOf recordsOf recordOf twosComplement every kindAt decoded inputsBelow noteLength upTo evaluated instant equals truth inputFits workedOut valueFits answerOf holdsNode inside
+greatest-doubled = record { node = record { streams = 3; property = 2 }; is-accepted = refl; answered = refl; values = refl }
+
+one-more : Holds (refuses doubling (pos 4611686018427387904 ∷ []) 34 (AtRecord 1))
+unfolding doubling rec nodeFile nodeVerdict recordsVerdict lengthOk fixedOk countsOk distanceOk lowest shapeOk unusedOk operandsOk typesOk propertyOk rowOf recordsOf recordOf twosComplement every kindAt decoded inputsBelow noteLength upTo evaluated instant equals truth inputFits workedOut valueFits answerOf holdsNode inside
+one-more = refl
+
+least-doubled : Computed leastDoubled
+unfolding doubling rec nodeFile nodeVerdict recordsVerdict lengthOk fixedOk countsOk distanceOk lowest shapeOk unusedOk operandsOk typesOk propertyOk rowOf recordsOf recordOf twosComplement every kindAt decoded inputsBelow noteLength upTo evaluated instant equals truth inputFits workedOut valueFits answerOf holdsNode inside
+least-doubled = record { node = record { streams = 3; property = 2 }; is-accepted = refl; answered = refl; values = refl }
+
+opposites-pass : Holds (checks twoInts (opposites (minusOne 8) (noughts 8)) (refused 21 Base))
+unfolding twoInts opposites atMost rec nodeFile nodeVerdict recordsVerdict lengthOk fixedOk countsOk distanceOk lowest shapeOk unusedOk operandsOk typesOk propertyOk rowOf recordsOf recordOf twosComplement line certificateFile certFixed certCounts certDistance verdictOf certificateVerdict constraintsVerdict linesVerdict every shapePasses lineShape slotOk numbersOk namesAtom kindPasses kindOk kindAt decoded constraintOk termOk usedOk rises termUnused written sumOf arithmeticOk
+opposites-pass = refl
+
+opposites-fail : Holds (checks twoInts (opposites (noughts 8) (noughts 8)) (refused 20 (AtLine 0)))
+unfolding twoInts opposites atMost rec nodeFile nodeVerdict recordsVerdict lengthOk fixedOk countsOk distanceOk lowest shapeOk unusedOk operandsOk typesOk propertyOk rowOf recordsOf recordOf twosComplement line certificateFile certFixed certCounts certDistance verdictOf certificateVerdict constraintsVerdict linesVerdict every shapePasses lineShape slotOk numbersOk namesAtom kindPasses kindOk kindAt decoded constraintOk termOk usedOk rises termUnused written sumOf arithmeticOk
+opposites-fail = refl
+
+depth-8 : Holds (checks constantTrue (ofDepth 8) (accepted (record { depth = 8; base = 17; step = 3 })))
+unfolding constantTrue ofDepth rec nodeFile nodeVerdict recordsVerdict lengthOk fixedOk countsOk distanceOk lowest shapeOk unusedOk operandsOk typesOk propertyOk rowOf recordsOf recordOf twosComplement line certificateFile certFixed certCounts certDistance verdictOf certificateVerdict constraintsVerdict linesVerdict every shapePasses lineShape slotOk numbersOk namesAtom kindPasses kindOk kindAt decoded equationIn clauseIs basePropertyOk stepPropertyOk standsFrom joins joinOk
+depth-8 = refl
+
+depth-9 : Holds (checks constantTrue (ofDepth 9) (refused 13 File))
+unfolding constantTrue ofDepth rec nodeFile nodeVerdict recordsVerdict lengthOk fixedOk countsOk distanceOk lowest shapeOk unusedOk operandsOk typesOk propertyOk rowOf recordsOf recordOf twosComplement line certificateFile certFixed certCounts certDistance verdictOf certificateVerdict
+depth-9 = refl
+
+size-64 : Holds (reads (ofSize 64) (accepted (record { streams = 64; property = 0 })))
+unfolding ofSize rec nodeFile nodeVerdict recordsVerdict lengthOk fixedOk countsOk distanceOk lowest shapeOk unusedOk operandsOk typesOk propertyOk rowOf recordsOf recordOf twosComplement
+size-64 = refl
+
+size-65 : Holds (reads (ofSize 65) (refused 3 File))
+unfolding ofSize rec nodeFile nodeVerdict recordsVerdict lengthOk fixedOk countsOk distanceOk lowest shapeOk unusedOk operandsOk typesOk propertyOk rowOf recordsOf recordOf twosComplement
+size-65 = refl
+
+no-base-lines : Holds (checks twoBands withoutLines (refused 21 Base))
+unfolding twoBands withoutLines rec nodeFile nodeVerdict recordsVerdict lengthOk fixedOk countsOk distanceOk lowest shapeOk unusedOk operandsOk typesOk propertyOk rowOf recordsOf recordOf twosComplement line certificateFile certFixed certCounts certDistance verdictOf certificateVerdict constraintsVerdict linesVerdict every shapePasses lineShape slotOk numbersOk namesAtom kindPasses kindOk kindAt decoded
+no-base-lines = refl
+
+pub starred : Starred
+unfolding cases
+starred =
+    (answers-by bothAsked both-asked, (refl, (refl, (answers-by greatestDoubled greatest-doubled, (one-more, (answers-by leastDoubled least-doubled, (opposites-pass, (opposites-fail, (depth-8, (depth-9, (size-64, (size-65, (no-base-lines, tt)))))))))))))

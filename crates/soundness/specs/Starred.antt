@@ -1,0 +1,182 @@
+-- The starred cases: one list, and one theorem over the list (proofs/StarredCases.antt).
+use mathlib.Core.Path.{_≡_}
+use Prim.Native.Nat.{ℕ, zero, suc, _+_, _*_, _<_}
+use mathlib.Core.List.{List, [], _∷_, _++_}
+use lib.IntN.{ℤ, pos, negℤ}
+use lib.ListN.{length, replicate}
+use Rattle.answers.specs.declared.Place.{Place}
+use Rattle.answers.specs.declared.Place.the-variants.{File, Record as AtRecord, Line as AtLine, Base}
+use Rattle.answers.specs.Answer.{Answer, accepted, refused, NodeValues, CertificateValues}
+use Rattle.node.specs.Layout.{streamsOf}
+use Rattle.node.specs.Reads.{All}
+use Rattle.node.specs.Verdict.{verdictOf as nodeVerdict}
+use Rattle.constraints.specs.Linear.{variable}
+use Rattle.clauses.specs.Literals.{negative}
+use Rattle.certificate.specs.Verdict.{verdictOf}
+use Rattle.streams.specs.Nodes.{nodeOf}
+use Rattle.streams.specs.Solutions.{Streams, Solution}
+use Rattle.streams.specs.Typing.{Inputs, TypedInstant}
+use Rattle.streams.specs.Values.{valuesIn}
+use Rattle.session.specs.Instants.{answerOf, sliceOf}
+use Rattle.session.specs.Records.{begun}
+use Rattle.soundness.specs.Files.{rec, nodeFile, noughts, plusOne, minusOne, atMost, line, certificateFile}
+
+-- a just begun session's first call: its inputs, one number an input, and the values that it leaves, one number a stream
+pub record FirstCall : Type 0 where
+  pub file : List ℕ
+  pub inputs : List ℤ
+  pub values : List ℤ
+
+pub data Case : Type 0 where
+  -- the first call is answered with these values
+  answers : FirstCall → Case
+  -- the first call is refused
+  refuses : (file : List ℕ) → (inputs : List ℤ) → (number : ℕ) → Place → Case
+  -- a stream negated at an offset is the literal of this number
+  negatedIs : (stream offset literal : ℕ) → Case
+  -- the answer to a node file
+  reads : (file : List ℕ) → Answer NodeValues → Case
+  -- the answer to a node file and a certificate
+  checks : (node cert : List ℕ) → Answer CertificateValues → Case
+
+-- "Records: 0, 1 inputs; 2 not 0; 3 = 1 and 2; 4 = 0 and 3; 5 not 4, the property."
+unfoldable pub twoBands : List ℕ
+twoBands =
+    nodeFile
+    (rec 0 0 0 0 0 0
+    ∷ rec 0 0 0 0 0 0
+    ∷ rec 2 0 0 0 0 0
+    ∷ rec 3 0 1 2 0 0
+    ∷ rec 3 0 0 3 0 0
+    ∷ rec 2 0 4 0 0 0
+    ∷ [])
+    5
+
+-- 0 an int input; 1 = "Sum 0 + 0"; 2 the constant true, the property
+unfoldable pub doubling : List ℕ
+doubling = nodeFile (rec 0 1 0 0 0 0 ∷ rec 6 1 0 0 0 0 ∷ rec 1 0 0 0 0 1 ∷ []) 2
+
+-- n bool inputs, the first the property
+unfoldable pub ofSize : (n : ℕ) → List ℕ
+ofSize n = nodeFile (replicate n (rec 0 0 0 0 0 0)) 0
+
+-- 0 and 1 int inputs; 2 the constant true, the property
+unfoldable pub twoInts : List ℕ
+twoInts = nodeFile (rec 0 1 0 0 0 0 ∷ rec 0 1 0 0 0 0 ∷ rec 1 0 0 0 0 1 ∷ []) 2
+
+-- one base line, of kind 4, with multipliers 1 and 1: its literals are the negations of "0 − 1 at most" one bound and "1 − 0 at most"
+-- another, so that these two are its opposites
+unfoldable pub opposites : (one other : List ℕ) → List ℕ
+opposites one other =
+    certificateFile 1
+    (atMost (plusOne 4) (minusOne 4) one ∷ atMost (minusOne 4) (plusOne 4) other ∷ [])
+    (line 4 0 0 0 (negative 576 ∷ negative 577 ∷ []) (1 ∷ 1 ∷ []) ∷ [])
+    []
+
+-- 0 the constant true, the property
+unfoldable pub constantTrue : List ℕ
+constantTrue = nodeFile (rec 1 0 0 0 0 1 ∷ []) 0
+
+-- the property at offset j
+abbrev prop : (j : ℕ) → ℕ
+prop j = 2 * variable j 0
+
+-- not-prop at the offsets from j on
+abbrev negations : (j left : ℕ) → List ℕ
+negations j zero = []
+negations j (suc left) = suc (prop j) ∷ negations (suc j) left
+
+-- the equations at the offsets from j on, lines 1 and on
+abbrev equations : (j left : ℕ) → List (List ℕ)
+equations j zero = []
+equations j (suc left) = line 1 0 j 0 (prop j ∷ []) [] ∷ equations (suc j) left
+
+-- the property line's literals struck one by one: `last` is the line before
+abbrev strikes : (last j left : ℕ) → (at : ℕ) → List (List ℕ)
+strikes last j zero at = []
+strikes last j (suc left) at = line 3 (suc j) last (prop j) (negations (suc j) left) [] ∷ strikes at (suc j) left (suc at)
+
+-- a whole certificate for it at depth k: the base strikes the property line's literals one by one, the step has one literal to strike
+unfoldable pub ofDepth : (k : ℕ) → List ℕ
+ofDepth k =
+    certificateFile k []
+    ((line 2 0 0 0 (negations 0 k) [] ∷ equations 0 k) ++ strikes 0 0 k (k + 1))
+    (line 2 0 k 0 (suc (prop k) ∷ []) []
+    ∷ line 1 0 k 0 (prop k ∷ []) []
+    ∷ line 3 (2 * k + 2) (2 * k + 1) (prop k) [] []
+    ∷ [])
+
+-- no lines at all
+unfoldable pub withoutLines : List ℕ
+withoutLines = certificateFile 1 [] [] []
+
+-- both bands are asked for at once
+abbrev pub bothAsked : FirstCall
+bothAsked =
+    record {
+      file = twoBands;
+      inputs = pos 1 ∷ pos 1 ∷ [];
+      values = pos 1 ∷ pos 1 ∷ pos 0 ∷ pos 0 ∷ pos 0 ∷ pos 1 ∷ [];
+    }
+
+-- the greatest and the least number whose double 64 signed bits hold
+abbrev pub greatestDoubled : FirstCall
+greatestDoubled =
+    record {
+      file = doubling;
+      inputs = pos 4611686018427387903 ∷ [];
+      values = pos 4611686018427387903 ∷ pos 9223372036854775806 ∷ pos 1 ∷ [];
+    }
+
+abbrev pub leastDoubled : FirstCall
+leastDoubled =
+    record {
+      file = doubling;
+      inputs = negℤ (pos 4611686018427387904) ∷ [];
+      values = negℤ (pos 4611686018427387904) ∷ negℤ (pos 9223372036854775808) ∷ pos 1 ∷ [];
+    }
+
+unfoldable pub cases : List Case
+cases =
+    -- "*Inputs 1, 1 give 1, 1, 0, 0, 0, 1."
+    answers bothAsked
+    -- "*!5 at offset 0 is literal 11, at offset 1 it is 139."
+    ∷ negatedIs 5 0 11
+    ∷ negatedIs 5 1 139
+    -- "*Sum 0 + 0 on input 4611686018427387903 gives 9223372036854775806; *one more is 34; *−4611686018427387904 is answered."
+    ∷ answers greatestDoubled
+    ∷ refuses doubling (pos 4611686018427387904 ∷ []) 34 (AtRecord 1)
+    ∷ answers leastDoubled
+    -- "*Opposites "u − v at most −1" and "v − u at most 0" pass as kind 4, multipliers 1 and 1; *with both bounds 0 it is 20."
+    -- Where the line passes, an empty one is missing.
+    ∷ checks twoInts (opposites (minusOne 8) (noughts 8)) (refused 21 Base)
+    ∷ checks twoInts (opposites (noughts 8) (noughts 8)) (refused 20 (AtLine 0))
+    -- "*Depth 8 passes, *9 is 13."
+    ∷ checks constantTrue (ofDepth 8) (accepted (record { depth = 8; base = 17; step = 3 }))
+    ∷ checks constantTrue (ofDepth 9) (refused 13 File)
+    -- "*n = 64 passes, *65 is 3."
+    ∷ reads (ofSize 64) (accepted (record { streams = 64; property = 0 }))
+    ∷ reads (ofSize 65) (refused 3 File)
+    -- "*No base lines: 21."
+    ∷ checks twoBands withoutLines (refused 21 Base)
+    ∷ []
+
+-- the file is accepted and the inputs are typed; the call is answered and leaves the values; and every solution on inputs that start
+-- with them has these values at instant 0
+pub record Answers (c : FirstCall) : Type 0 where
+  pub node : NodeValues
+  pub is-accepted : nodeVerdict (c .file) ≡ accepted node
+  pub typed : TypedInstant (nodeOf (c .file)) (c .inputs)
+  pub answered : answerOf (begun (c .file)) (c .inputs) (streamsOf (c .file)) ≡ accepted tt
+  pub left : (slice : List ℤ) → length slice ≡ streamsOf (c .file) → sliceOf (begun (c .file)) (c .inputs) slice ≡ c .values
+  pub solved : (inputs : Inputs) (v : Streams) → Solution (nodeOf (c .file)) inputs v → inputs 0 ≡ c .inputs → (i : ℕ) → i < streamsOf (c .file) → valuesIn (c .values) i ≡ v 0 i
+
+abbrev pub Holds : Case → Type 0
+Holds (answers c) = Answers c
+Holds (refuses file inputs number place) = answerOf (begun file) inputs (streamsOf file) ≡ refused number place
+Holds (negatedIs stream offset literal) = negative (variable offset stream) ≡ literal
+Holds (reads file answer) = nodeVerdict file ≡ answer
+Holds (checks node cert answer) = verdictOf node cert ≡ answer
+
+abbrev pub Starred : Type 0
+Starred = All Holds cases
