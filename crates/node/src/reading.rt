@@ -42,12 +42,13 @@ fn passes(file: &[u8], n: usize, rule: RecordRule, i: usize) -> bool
 fn first_bad(file: &[u8], n: usize, rule: RecordRule) -> Found
     ensures { λ r. ⌜ r ≡ lowest (passesOf (now (file .entry)) n rule) n ⌝ }
 {
-    let mut i = 0;
-    while i < n {
+    let mut left = n;
+    while 0 < left {
+        let i = n - left;
         if !passes(file, n, rule, i) {
             return Found::At(i);
         }
-        i += 1;
+        left -= 1;
     }
     Found::Nothing
 }

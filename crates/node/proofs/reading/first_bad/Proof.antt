@@ -1,10 +1,10 @@
--- `node::first_bad` meets its contract. The loop's invariant: each record passed keeps the rule.
+-- `node::first_bad` meets its contract. The loop's invariant: each record before those that are left keeps the rule.
 -- Assumes nothing.
 use mathlib.Core.Path.{_≡_, sym, _∙_}
 use mathlib.Core.Bool.{true}
 use Prim.Native.Nat.{ℕ, _-_, _<_, _≤_}
 use native.Mathlib.Omega.{arith}
-use borrow.Author.Count.{below-none, below-more}
+use borrow.Author.Count.{below-more}
 use borrow.Author.Needs.{needs}
 use borrow.Author.Tests.{not-true, not-false}
 use Rattle.answers.proofs.Lowest.{none, found}
@@ -13,13 +13,16 @@ use Rattle.node.proofs.reading.first_bad.Statement.{statement}
 use Rattle.node.proofs.reading.first_bad.Tie as tie
 
 abbrev Inv-loop : tie.InvT-loop
-Inv-loop file n rule i₀ i = (i ≤ n) × ((k : ℕ) → k < i → passesOf file n rule k ≡ true)
+Inv-loop file n rule left₀ left = (left ≤ n) × ((k : ℕ) → k < n - left → passesOf file n rule k ≡ true)
 
 abbrev μ-loop : tie.MeasureT-loop
-μ-loop file n rule i₀ i = n - i
+μ-loop file n rule left₀ left = left
 
 loop-holds : tie.Need-loop-holds Inv-loop μ-loop
-loop-holds c = (search needs, below-none _)
+loop-holds c = (search needs, λ k l. absurd (omega arith))
+
+sub-i : tie.Need-sub-i Inv-loop μ-loop
+sub-i c = search needs
 
 passes-requires : tie.Need-passes-requires Inv-loop μ-loop
 passes-requires c κs = search needs
@@ -27,11 +30,10 @@ passes-requires c κs = search needs
 returns : tie.Need-returns Inv-loop μ-loop
 returns c =
     sym
-    (found _ _ _ (c .before .before .loop-test .taken) (c .before .before .before .loop .inv .1)
-    (sym (c .before .passes .ensures) ∙ not-true _ (c .if1 .taken)))
+    (found _ _ _ (omega arith) (c .before .before .before .loop .inv .1) (sym (c .before .passes .ensures) ∙ not-true _ (c .if1 .taken)))
 
-add-i : tie.Need-add-i Inv-loop μ-loop
-add-i c = search needs
+sub-left : tie.Need-sub-left Inv-loop μ-loop
+sub-left c = search needs
 
 loop-less : tie.Need-loop-less Inv-loop μ-loop
 loop-less c = search needs
@@ -39,7 +41,7 @@ loop-less c = search needs
 loop-again : tie.Need-loop-again Inv-loop μ-loop
 loop-again c = (
   search needs,
-  below-more _ _ (c .before .before .before .loop .inv .1) (sym (c .before .passes .ensures) ∙ not-false _ (c .if1 .left)),
+  λ k l. below-more _ _ (c .before .before .before .loop .inv .1) (sym (c .before .passes .ensures) ∙ not-false _ (c .if1 .left)) k (omega arith),
 )
 
 returns-2 : tie.Need-returns-2 Inv-loop μ-loop
@@ -52,9 +54,10 @@ first-bad-spec =
     Inv-loop
     μ-loop
     loop-holds
+    sub-i
     passes-requires
     returns
-    add-i
+    sub-left
     loop-less
     loop-again
     returns-2)
