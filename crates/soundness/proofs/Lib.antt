@@ -1,16 +1,1 @@
-pub mod AcceptedParts
-pub mod ArithmeticLines
-pub mod CertificateFacts
-pub mod ClauseForms
-pub mod ClauseLines
-pub mod ClausesHold
-pub mod ClausesNamed
-pub mod EquationLines
-pub mod Joins
-pub mod LiteralMatches
-pub mod Literals
-pub mod Parts
-pub mod PropertyLines
-pub mod Search
-pub mod SolutionWindows
 pub mod Soundness

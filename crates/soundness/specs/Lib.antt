@@ -1,3 +1,1 @@
-pub mod Satisfaction
 pub mod Theorems
-pub mod Windows
