@@ -1,16 +1,14 @@
 -- What rules 1 to 8 and 11 to 15 leave, put together for the checks of lines.
 -- Assumes nothing.
-use mathlib.Core.Path.{_≡_, sym, _∙_, ap, ap₂, fun-ext}
+use mathlib.Core.Path.{_≡_, sym, ap, fun-ext}
 use mathlib.Core.List.{List}
-use Prim.Native.Nat.{ℕ, _≤_, _+_, _*_, _<_}
+use Prim.Native.Nat.{ℕ, _≤_, _+_, _*_}
 use native.Mathlib.Omega.{arith}
 use lib.ListN.{length}
-use Rattle.answers.specs.declared.Found.{Found}
 use Rattle.answers.specs.declared.Found.the-variants.{Nothing}
 use Rattle.answers.specs.Answer.{accepted, NodeValues}
 use Rattle.answers.specs.Checks.{lowest}
 use Rattle.answers.proofs.Lowest.{all}
-use Rattle.node.specs.Layout.{streamsOf, propertyOf}
 use Rattle.node.specs.Verdict.{verdictOf as nodeVerdict}
 use Rattle.node.proofs.FileRules.{Sizes, sizes}
 use Rattle.node.proofs.Outcomes.{accepted-keeps, accepted-values}

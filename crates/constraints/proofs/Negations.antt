@@ -4,7 +4,7 @@ use mathlib.Core.Path.{_≡_, refl, _∙_, ap}
 use mathlib.Core.Bool.{Bool, true, false, not}
 use Prim.Native.Nat.{ℕ}
 use lib.IntN.{ℤ, pos, negℤ, _-ℤ_}
-use lib.Signed.{leZ, _≤ℤ_}
+use lib.Signed.{leZ}
 use Rattle.integers.proofs.Order.{leZ-true, leZ-false, ≰-<ℤ, ≰-negℤ}
 use Rattle.integers.proofs.Ring.{*ℤ-idl, negℤ-*ℤ}
 use Rattle.constraints.specs.Linear.{Form, Bounded, total, scaled, negated}

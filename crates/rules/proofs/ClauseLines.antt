@@ -1,13 +1,13 @@
 -- A line whose literals are those of a true clause is satisfied.
 -- Assumes nothing.
-use mathlib.Core.Path.{_≡_, refl, sym}
+use mathlib.Core.Path.{_≡_, sym}
 use mathlib.Core.Logic.{_⊎_, inl, inr}
 use mathlib.Core.List.{List, [], _∷_}
 use mathlib.Core.Bool.{Bool, true, false, not, _&&_, _||_, true≢false}
 use Prim.Native.Nat.{ℕ, zero, suc, _<_}
 use borrow.Author.Tests.{eqb-true, leb-false, not-true}
 use lib.Dec.{leb, eqb}
-use Rattle.answers.proofs.Tests.{both-true}
+use Rattle.answers.proofs.Tests.{both-true, either-true}
 use Rattle.node.specs.Reads.{All}
 use Rattle.constraints.specs.Layout.{Constraint, Line}
 use Rattle.constraints.specs.Linear.{boundedOf as ofConstraint}
@@ -21,10 +21,6 @@ use Rattle.rules.specs.Satisfaction.{Valuation, patternTrue, clauseTrue,
 use Rattle.rules.proofs.ClauseForms.{AllTrue}
 use Rattle.rules.proofs.ClausesNamed.{LiteralBelow, ClauseBelow}
 use Rattle.rules.proofs.LiteralMatches.{matched-true}
-
-either-true : (a b : Bool) → (a || b) ≡ true → (a ≡ true) ⊎ (b ≡ true)
-either-true true b e = inl refl
-either-true false b e = inr e
 
 -- a second or third literal that the clause has
 past : (k j : ℕ) → not (leb k j) ≡ true → j < k

@@ -1,6 +1,6 @@
 -- Each operator's clauses have at least one literal, and only variables of the stream and of its operands.
 -- Assumes nothing.
-use mathlib.Core.List.{List, [], _∷_, map}
+use mathlib.Core.List.{List}
 use mathlib.Core.Bool.{Bool, true, false, cond}
 use Prim.Native.Nat.{ℕ, _≤_, _<_}
 use native.Mathlib.Omega.{arith}
@@ -11,14 +11,13 @@ use Rattle.node.specs.declared.equation.Kind.the-variants.{Bool as BoolKind, In
 use Rattle.node.specs.declared.equation.Equation.{Equation}
 use Rattle.node.specs.declared.equation.Equation.the-variants.{Input, Constant, Not, And, Or, Same, Sum, Difference, Multiple, AtMost, Equal, If, Arrow, FollowedBy}
 use Rattle.node.specs.Reads.{All, Read, reads}
-use Rattle.node.proofs.WellFormedness.{all-append}
 use Rattle.constraints.proofs.Totals.{Below}
 use Rattle.rules.specs.declared.pattern.Clause.{Clause}
 use Rattle.rules.specs.declared.pattern.Pattern.{Pattern}
 use Rattle.rules.specs.declared.pattern.Pattern.the-variants.{Yes, No, Most}
 use Rattle.rules.specs.declared.pattern.Place.{Place}
 use Rattle.rules.specs.declared.pattern.Place.the-variants.{Opening, Unsure, Inner}
-use Rattle.rules.specs.Clauses.{boundedOf, most, less, clause1, clause2, clause3, equalTo, sameAs, guarded, clauses}
+use Rattle.rules.specs.Clauses.{boundedOf, most, less, clause1, clause2, clause3, equalTo, sameAs, clauses}
 
 -- a literal whose variables are below n
 abbrev pub LiteralBelow : (n : ℕ) → Pattern → Type 0
@@ -65,11 +64,6 @@ module _ (n : ℕ) where
   same-below BoolKind s t l m = (two (No s) (Yes t) l m, (two (Yes s) (No t) l m, tt))
   same-below IntKind s t l m = (one (most s t) (most-below s t l m), (one (most t s) (most-below t s m l), tt))
 
-  guarded-below : (p : Pattern) → LiteralBelow n p → (cs : List Clause) → AllBelow cs → AllBelow (map (guarded p) cs)
-  guarded-below p l [] b = tt
-  guarded-below p l (c ∷ cs) b =
-      (record { some = omega arith; first = l; second = b .0 .first; third = b .0 .second }, guarded-below p l cs (b .1))
-
   -- ---- the operators
 
   module _ (now back : ℕ → ℕ) (s : ℕ) (own : s < n) (kind : Kind) where
@@ -80,6 +74,29 @@ module _ (n : ℕ) where
         go true = own
         go false = own
     constant-below IntKind k place = equal-below s (pos 0) s (pos 0) s k own own own
+
+    -- whichever of the two the guard chooses
+    if-below : (own-kind : Kind) (a b c : ℕ) (place : Place) → now a < n → now b < n → now c < n → AllBelow (clauses own-kind (If a b c) place now back s)
+    if-below BoolKind a b c place l m o = (
+      record { some = omega arith; first = o; second = own; third = l },
+      (
+        record { some = omega arith; first = o; second = own; third = l },
+        (
+          record { some = omega arith; first = o; second = own; third = m },
+          (record { some = omega arith; first = o; second = own; third = m }, tt),
+        ),
+      ),
+    )
+    if-below IntKind a b c place l m o = (
+      record { some = omega arith; first = o; second = most-below s (now a) own l; third = most-below s (now a) own l },
+      (
+        record { some = omega arith; first = o; second = most-below (now a) s l own; third = most-below (now a) s l own },
+        (
+          record { some = omega arith; first = o; second = most-below s (now b) own m; third = most-below s (now b) own m },
+          (record { some = omega arith; first = o; second = most-below (now b) s m own; third = most-below (now b) s m own }, tt),
+        ),
+      ),
+    )
 
     arrow-below : (a b : ℕ) (place : Place) → now a < n → now b < n → AllBelow (clauses kind (Arrow a b) place now back s)
     arrow-below a b Opening l m = same-below kind s (now a) own l
@@ -136,9 +153,6 @@ module _ (n : ℕ) where
             (three (Yes s) (less (now a) (now b)) (less (now b) (now a)) own (less-below (now a) (now b) l m) (less-below (now b) (now a) m l), tt),
           ),
         )
-    clauses-below (If a b c) place r =
-        all-append _ (map (guarded (No (now c))) (sameAs kind s (now a))) (map (guarded (Yes (now c))) (sameAs kind s (now b)))
-        (guarded-below (No (now c)) (r .1 .1 .0 .0) (sameAs kind s (now a)) (same-below kind s (now a) own (r .0 .0)))
-        (guarded-below (Yes (now c)) (r .1 .1 .0 .0) (sameAs kind s (now b)) (same-below kind s (now b) own (r .1 .0 .0)))
+    clauses-below (If a b c) place r = if-below kind a b c place (r .0 .0) (r .1 .0 .0) (r .1 .1 .0 .0)
     clauses-below (Arrow a b) place r = arrow-below a b place (r .0 .0) (r .1 .0 .0)
     clauses-below (FollowedBy a b) place r = followed-below a b place (r .0 .0) (r .1 .0 .1)

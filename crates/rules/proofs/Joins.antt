@@ -3,22 +3,18 @@
 -- Assumes nothing.
 use mathlib.Core.Path.{_≡_, refl, sym, _∙_, ap}
 use mathlib.Core.Logic.{_⊎_, inl, inr}
-use mathlib.Core.Bool.{Bool, true, false, not, _&&_, _||_, false≢true}
+use mathlib.Core.Bool.{Bool, true, false, not, _&&_, false≢true}
 use Prim.Native.Nat.{ℕ, zero, suc, _+_, _<_}
 use native.Mathlib.Omega.{arith}
 use borrow.Author.Tests.{eqb-true}
 use lib.Dec.{eqb}
 use Rattle.answers.proofs.Every.{every-all}
-use Rattle.answers.proofs.Tests.{both-true}
+use Rattle.answers.proofs.Tests.{both-true, either-true}
 use Rattle.constraints.specs.Layout.{Constraint, Line}
 use Rattle.rules.specs.Literals.{oppositeOf}
 use Rattle.rules.specs.Joins.{standsFrom, standsIn, coveredBy, covered, joins}
 use Rattle.rules.specs.Satisfaction.{Valuation, literalTrue, Satisfies}
 use Rattle.rules.proofs.Literals.{opposite-true}
-
-either-true : (a b : Bool) → (a || b) ≡ true → (a ≡ true) ⊎ (b ≡ true)
-either-true true b e = inl refl
-either-true false b e = inr e
 
 -- a literal is one of the first n
 record Stands (literal : ℕ → ℕ) (l n : ℕ) : Type 0 where

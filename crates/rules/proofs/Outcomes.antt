@@ -1,9 +1,9 @@
 -- Every answer to a node file and a certificate says what it should: accepted exactly where the published rules hold, refused with
 -- the first that fails at its lowest place.
 -- Assumes nothing.
-use mathlib.Core.Path.{_≡_, refl, sym, _∙_, subst, ap}
+use mathlib.Core.Path.{_≡_, refl, sym, _∙_, subst}
 use mathlib.Core.Logic.{_↔_}
-use mathlib.Core.Bool.{Bool, true, false, cond, _&&_}
+use mathlib.Core.Bool.{false≢true}
 use mathlib.Core.List.{List}
 use Prim.Native.Nat.{ℕ, _<_}
 use Rattle.answers.specs.declared.Found.{Found}
@@ -11,16 +11,14 @@ use Rattle.answers.specs.declared.Found.the-variants.{At, Nothing}
 use Rattle.answers.specs.declared.Place.{Place}
 use Rattle.answers.specs.declared.Place.the-variants.{File, Constraint as AtConstraint, Line as AtLine, Base, Step}
 use Rattle.answers.specs.Answer.{Answer, accepted, refused, NodeValues, CertificateValues}
-use Rattle.answers.specs.Checks.{lowest}
 use Rattle.answers.proofs.InARow.{by-check, by-check-all}
 use Rattle.answers.proofs.Lowest.{none, all, first}
 use Rattle.answers.proofs.Tests.{both-true}
 use Rattle.node.specs.Outcome.{NodeRules}
 use Rattle.node.specs.Verdict.{verdictOf as nodeVerdict}
 use Rattle.node.proofs.Outcomes.{accepted-keeps as node-keeps, refused-first as node-first, keeps-accepted as node-accepted}
-use Rattle.constraints.specs.Layout.{trailerOf, lineOf}
-use Rattle.rules.specs.Outcome.{FileRules, KindKeeps, LinesKeep, CertificateRules, BeforeLines, FirstFailure, in-node, at-11, at-12, at-13, at-14, at-15, at-line, at-21-base, at-21-step, Says}
-use Rattle.rules.specs.Verdict.{linesOf, valuesOf, shapePasses, kindPasses, equationPasses, propertyPasses, joinPasses, arithmeticPasses, linePasses, lineNumber, checkLines, linesVerdict, constraintsVerdict, certificateVerdict, afterNode, verdictOf}
+use Rattle.rules.specs.Outcome.{FileRules, LinesKeep, CertificateRules, BeforeLines, FirstFailure, in-node, at-11, at-12, at-13, at-14, at-15, at-line, at-21-base, at-21-step, Says}
+use Rattle.rules.specs.Verdict.{linesOf, valuesOf, shapePasses, kindPasses, linePasses, lineNumber, checkLines, linesVerdict, constraintsVerdict, certificateVerdict, afterNode, verdictOf}
 use Rattle.rules.proofs.KindRules.{KindRules, kind-rules, kind-passes}
 
 -- the lowest line at fault, or the rest
@@ -105,6 +103,9 @@ module _ (node cert : List ℕ) where
       } in
       rw (r .shapes i l) (kind-passes node cert i (r .shapes i l) rules)
 
+  abbrev Accepts : Answer CertificateValues → Type 0
+  Accepts a = a ≡ accepted (valuesOf cert)
+
   pub keeps-accepted : CertificateRules node cert → verdictOf node cert ≡ accepted (valuesOf cert)
   unfolding verdictOf certificateVerdict constraintsVerdict linesVerdict
   keeps-accepted r =
@@ -117,9 +118,9 @@ module _ (node cert : List ℕ) where
         f .distance,
         none _ _ (r .constraints),
         none _ _ (lines-keep r),
-        r .base-ends,
-        r .step-ends,
       )
+      (by-check Accepts _ 21 Base _ (λ e. absurd (false≢true (sym e ∙ r .base-ends))) λ _.
+      by-check Accepts _ 21 Step _ (λ e. absurd (false≢true (sym e ∙ r .step-ends))) λ _. refl)
 
   -- the published rules, and only they
   pub accepted-exactly : (verdictOf node cert ≡ accepted (valuesOf cert)) ↔ CertificateRules node cert

@@ -1,6 +1,6 @@
 -- `certificate::constraints_verdict` meets its contract: the lowest constraint at fault, or the verdict on the lines.
 -- Assumes nothing.
-use mathlib.Core.Path.{_≡_, sym, _∙_, ap}
+use mathlib.Core.Path.{_≡_, sym, _∙_}
 use denote.Ref.{now}
 use Rattle.answers.specs.declared.Found.the-variants.{Nothing}
 use Rattle.answers.specs.Checks.{lowest}
