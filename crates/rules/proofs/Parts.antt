@@ -53,12 +53,12 @@ join-facts lines from i e =
     let join = joins (lines p) (lines q) (lines i .head .r) (lines i) in
     let all = both-true (isLower from i p && isLower from i q) join e in
     let lower = both-true (isLower from i p) (isLower from i q) (all .0) in
-    let of-p = both-true (leb from p) (ltb p i) (lower .0) in
-    let of-q = both-true (leb from q) (ltb q i) (lower .1) in
+    let of-p = both-true (leb _ p) (ltb p i) (lower .0) in
+    let of-q = both-true (leb _ q) (ltb q i) (lower .1) in
     record {
-      p-part = leb-true from p (of-p .0);
+      p-part = omega (arith, leb-true _ p (of-p .0));
       p-lower = ltb-true p i (of-p .1);
-      q-part = leb-true from q (of-q .0);
+      q-part = omega (arith, leb-true _ q (of-q .0));
       q-lower = ltb-true q i (of-q .1);
       join = all .1;
     }

@@ -32,13 +32,12 @@ module _ (constraints : ℕ → Constraint) (w : Valuation) (k prop : ℕ) (deep
   pub base-property-satisfied : (line : Line) → basePropertyOk k prop line ≡ true → (q : ℕ) → q < k → holdsAt w prop q ≡ false → Satisfies constraints w line
   unfolding basePropertyOk
   base-property-satisfied line e q l f =
-      let each = every (notPropertyAt prop (line .literal)) k in
-      let all = both-true (eqb (line .head .q) 0 && eqb (line .head .count) k) each e in
-      let first = both-true (eqb (line .head .q) 0) (eqb (line .head .count) k) (all .0) in
-      let literal = eqb-true (line .literal q) (negative (variable q prop)) (every-all (notPropertyAt prop (line .literal)) k (all .1) q l) in
+      let all = both-true (eqb (line .head .q) 0 && eqb (line .head .count) _) (every (notPropertyAt prop (line .literal)) _) e in
+      let first = both-true (eqb (line .head .q) 0) (eqb (line .head .count) _) (all .0) in
+      let literal = eqb-true (line .literal q) (negative (variable q prop)) (every-all (notPropertyAt prop (line .literal)) _ (all .1) q (omega arith)) in
       record {
         which = q;
-        listed = omega (arith, eqb-true (line .head .count) k (first .1));
+        listed = omega (arith, eqb-true (line .head .count) _ (first .1));
         holds = ap (literalTrue constraints w) literal ∙ not-property q (omega arith) f;
       }
 
