@@ -14,8 +14,8 @@ use Rattle.answers.specs.Checks.{every}
 use Rattle.answers.proofs.Every.{every-all}
 use Rattle.constraints.specs.Layout.{Constraint, Line, lineHeadAt, literalAt}
 use Rattle.constraints.specs.Linear.{coefficient, sameZ}
-use Rattle.clauses.specs.Literals.{atomOf, isConstraint}
-use Rattle.arithmetic.specs.Arithmetic.{sumOf, arithmeticOk}
+use Rattle.rules.specs.Literals.{atomOf, isConstraint}
+use Rattle.rules.specs.Arithmetic.{sumOf, arithmeticOk}
 use Rattle.arithmetic.specs.Sums.{sumsOf}
 use Rattle.arithmetic.specs.Checkable.{Usable, Checkable}
 use Rattle.arithmetic.proofs.Adding.{sums-are}

@@ -1,6 +1,5 @@
-pub mod Words
 pub mod Adding
-pub mod Turns
 pub mod Deciding
-pub mod Contradiction
 pub mod Rules
+pub mod Turns
+pub mod Words

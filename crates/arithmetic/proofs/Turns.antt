@@ -15,7 +15,7 @@ use Rattle.integers.proofs.Reading.{rd}
 use Rattle.integers.proofs.Small.{small-sum-fits, small-sum}
 use Rattle.constraints.specs.Layout.{Constraint, Line, constraintAt, headAt, termAt, lineAt, literalAt, multiplierAt}
 use Rattle.constraints.specs.Linear.{variable, scaled, written}
-use Rattle.arithmetic.specs.Arithmetic.{sumOf}
+use Rattle.rules.specs.Arithmetic.{sumOf}
 use Rattle.arithmetic.specs.Sums.{addForm, sumsOf, constraintsFrom, placeOf, factorOf, oppositeBound}
 use Rattle.arithmetic.specs.Checkable.{Summable, Usable}
 use Rattle.arithmetic.proofs.Adding.{entry-within, weight, weight-append, weight-terms, terms-more, sums-more, bound-suc, bound-more, form-more, opposite-within, abs-factor}

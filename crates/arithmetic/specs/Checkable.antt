@@ -3,23 +3,11 @@ use Prim.Native.Nat.{ℕ, _+_, _≤_, _<_}
 use mathlib.Core.Path.{_≡_}
 use mathlib.Core.List.{List}
 use mathlib.Core.Bool.{true}
-use lib.IntN.{natAbs}
 use lib.ListN.{length}
-use Rattle.constraints.specs.Layout.{Constraint, constraintAt, lineHeadAt, literalAt, multiplierAt}
-use Rattle.constraints.specs.Linear.{variable}
-use Rattle.clauses.specs.Literals.{atomOf, isConstraint}
+use Rattle.constraints.specs.Layout.{constraintAt, lineHeadAt, literalAt, multiplierAt}
+use Rattle.rules.specs.Literals.{atomOf, isConstraint}
+use Rattle.rules.specs.Limited.{Limited}
 use Rattle.arithmetic.specs.Sums.{placeOf}
-
--- the first n terms name variables below 576: 64 streams at nine offsets
-abbrev pub Named : Constraint → (n : ℕ) → Type 0
-Named c n = (j : ℕ) → j < n → variable (c .term j .offset) (c .term j .stream) < 576
-
--- a constraint within its limits
-pub record Limited (c : Constraint) : Type 0 where
-  pub few : c .head .count ≤ 8
-  pub bound : natAbs (c .head .bound) ≤ 100000000000
-  pub variables : Named c (c .head .count)
-  pub coefficients : (j : ℕ) → j < c .head .count → natAbs (c .term j .coefficient) ≤ 1000000000
 
 -- the constraint at an offset stands within the file, and is within its limits
 pub record Summable (s : List ℕ) (at : ℕ) : Type 0 where

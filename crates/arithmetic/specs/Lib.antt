@@ -1,3 +1,2 @@
-pub mod Arithmetic
-pub mod Sums
 pub mod Checkable
+pub mod Sums

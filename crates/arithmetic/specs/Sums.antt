@@ -6,8 +6,8 @@ use lib.IntN.{ℤ, pos, negℤ, _+ℤ_, _-ℤ_}
 use lib.ListN.{getD, set, replicate}
 use Rattle.constraints.specs.Layout.{Constraint, Line, constraintAt, literalAt}
 use Rattle.constraints.specs.Linear.{Form}
-use Rattle.clauses.specs.Literals.{atomOf, isNegated, constraintNumber}
-use Rattle.arithmetic.specs.Arithmetic.{sumOf}
+use Rattle.rules.specs.Literals.{atomOf, isNegated, constraintNumber}
+use Rattle.rules.specs.Arithmetic.{sumOf}
 
 -- a number added at a variable
 abbrev pub addAt : List ℤ → (x : ℕ) → ℤ → List ℤ

@@ -9,7 +9,7 @@ use crate::sums::sums_of;
 use constraints::line_head;
 ghost use mathlib.Core.Path.{_≡_};
 ghost use Rattle.constraints.specs.Layout.{lineAt};
-ghost use Rattle.arithmetic.specs.Arithmetic.{arithmeticOk};
+ghost use Rattle.rules.specs.Arithmetic.{arithmeticOk};
 ghost use Rattle.arithmetic.specs.Sums.{constraintsFrom};
 ghost use Rattle.arithmetic.specs.Checkable.{Checkable};
 

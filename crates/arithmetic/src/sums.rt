@@ -12,8 +12,8 @@ ghost use lib.ListN.{length, getD};
 ghost use Rattle.answers.specs.Checks.{every};
 ghost use Rattle.constraints.specs.Layout.{lineAt, literalAt};
 ghost use Rattle.constraints.specs.Linear.{sameZ};
-ghost use Rattle.clauses.specs.Literals.{atomOf, isConstraint};
-ghost use Rattle.arithmetic.specs.Arithmetic.{sumOf};
+ghost use Rattle.rules.specs.Literals.{atomOf, isConstraint};
+ghost use Rattle.rules.specs.Arithmetic.{sumOf};
 ghost use Rattle.arithmetic.specs.Sums.{constraintsFrom, sumsOf};
 ghost use Rattle.arithmetic.specs.Checkable.{Usable};
 

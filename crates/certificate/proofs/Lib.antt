@@ -1,11 +1,7 @@
-pub mod FileFacts
-pub mod KindRules
 pub mod LineFacts
 pub mod NodeFacts
 pub mod Openings
-pub mod Outcomes
 pub mod PartFacts
 pub mod Settings
-pub mod ShapeFacts
 pub mod SortList
 pub mod Standing

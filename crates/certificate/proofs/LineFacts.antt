@@ -1,38 +1,30 @@
 -- A line that passes rule 16 in a file that passes rules 11 to 15 gives the rules after it what they ask.
 -- Assumes nothing.
-use mathlib.Core.Path.{_≡_, refl, sym, _∙_, ap, ap₂, subst}
-use mathlib.Core.Bool.{Bool, true, false, cond}
+use mathlib.Core.Path.{_≡_, sym, _∙_, ap, ap₂, subst}
+use mathlib.Core.Bool.{true, false}
 use mathlib.Core.List.{List}
 use Prim.Native.Nat.{ℕ, _+_, _*_, _<_, _≤_}
 use native.Mathlib.Omega.{arith}
-use borrow.Author.Tests.{ltb-true}
-use lib.Dec.{ltb}
 use Rattle.node.specs.Equations.{kindAt, equationAt}
 use Rattle.node.specs.Layout.{streamsOf, propertyOf}
 use Rattle.node.proofs.FileRules.{sizes}
 use Rattle.constraints.specs.declared.layout.Trailer.{Trailer}
 use Rattle.constraints.specs.Layout.{Line, trailerOf, startOf, constraintOf, lineAt, lineOf}
+use Rattle.rules.specs.Lines.{Window, equationIn}
+use Rattle.rules.specs.Verdict.{sortsOfNode, partOf, shapePasses, equationPasses}
+use Rattle.rules.proofs.ConstraintLimits.{Few, limited}
+use Rattle.rules.proofs.CertificateFacts.{few-streams}
+use Rattle.rules.proofs.LineParts.{part-base, part-step}
+use Rattle.rules.proofs.ShapeFacts.{ShapeFacts, shape-facts}
 use Rattle.clauses.specs.Matching.{Readable}
 use Rattle.arithmetic.specs.Checkable.{Checkable}
 use Rattle.arithmetic.specs.Sums.{constraintsFrom}
-use Rattle.arithmetic.proofs.Rules.{Few, limited, checkable}
+use Rattle.arithmetic.proofs.Rules.{checkable}
 use Rattle.certificate.specs.Checking.{Checking, linesStart}
 use Rattle.certificate.specs.Constants.{ConstantsLimited}
-use Rattle.certificate.specs.Lines.{Window, equationIn}
 use Rattle.certificate.specs.Ready.{linesAt, LinesReady}
-use Rattle.certificate.specs.Sorts.{sortOf, sortsBelow}
-use Rattle.certificate.specs.Verdict.{sortsOfNode, partOf, shapePasses, equationPasses}
 use Rattle.certificate.proofs.NodeFacts.{constants-limited}
-use Rattle.certificate.proofs.Settings.{line-fits, line-is, part-base, part-step}
-use Rattle.certificate.proofs.ShapeFacts.{ShapeFacts, shape-facts}
-
--- int streams are among the first 64
-pub few-streams : (node : List ℕ) (n : ℕ) → n ≤ 64 → (x : ℕ) → sortsBelow node n x ≡ 1 → x < 64
-few-streams node n most x = go (ltb x n) refl
-  where
-    go : (b : Bool) → ltb x n ≡ b → cond b (sortOf (kindAt node x)) 2 ≡ 1 → x < 64
-    go true e f = omega (arith, ltb-true x n e)
-    go false e f = omega arith
+use Rattle.certificate.proofs.Settings.{line-fits, line-is}
 
 module _ (node cert sorts : List ℕ) (t : Trailer) (n property : ℕ) (ch : Checking node cert sorts t n property) where
   few : Few (sortsOfNode node)

@@ -1,29 +1,24 @@
 -- What rules 1 to 8 and 11 to 15 leave, put together for the checks of lines.
 -- Assumes nothing.
-use mathlib.Core.Path.{_≡_, sym, _∙_, ap, ap₂, fun-ext}
-use mathlib.Core.Bool.{true, _&&_}
+use mathlib.Core.Path.{_≡_, sym, ap, fun-ext}
 use mathlib.Core.List.{List}
-use Prim.Native.Nat.{ℕ, _≤_, _+_, _*_, _<_}
+use Prim.Native.Nat.{ℕ, _≤_, _+_, _*_}
 use native.Mathlib.Omega.{arith}
 use lib.ListN.{length}
-use Rattle.answers.specs.declared.Found.{Found}
 use Rattle.answers.specs.declared.Found.the-variants.{Nothing}
 use Rattle.answers.specs.Answer.{accepted, NodeValues}
 use Rattle.answers.specs.Checks.{lowest}
 use Rattle.answers.proofs.Lowest.{all}
-use Rattle.node.specs.Layout.{streamsOf, propertyOf}
-use Rattle.node.specs.Rules.{lengthOk}
 use Rattle.node.specs.Verdict.{verdictOf as nodeVerdict}
 use Rattle.node.proofs.FileRules.{Sizes, sizes}
 use Rattle.node.proofs.Outcomes.{accepted-keeps, accepted-values}
 use Rattle.constraints.specs.declared.layout.Trailer.{Trailer}
 use Rattle.constraints.specs.Layout.{trailerOf, sizeOf, startOf}
-use Rattle.constraints.specs.Rules.{Sorts, sortsOf, fixedOk, countsOk, distanceOk, constraintPasses as passesFrom}
+use Rattle.constraints.specs.Rules.{Sorts, sortsOf, constraintPasses as passesFrom}
+use Rattle.rules.specs.Sorts.{sortsBelow}
+use Rattle.rules.specs.Verdict.{sortsOfNode, constraintPasses}
+use Rattle.rules.proofs.FileFacts.{FileFacts, file-facts}
 use Rattle.certificate.specs.Checking.{NodePassed, FilePassed, Checking}
-use Rattle.certificate.specs.Note.{fileOk}
-use Rattle.certificate.specs.Sorts.{sortsBelow}
-use Rattle.certificate.specs.Verdict.{sortsOfNode, constraintPasses}
-use Rattle.certificate.proofs.FileFacts.{FileFacts, file-facts}
 
 -- an accepted node file, from the values that its answer carries
 pub node-passed : (node : List ℕ) (n property : ℕ) → nodeVerdict node ≡ accepted (record { streams = n; property = property }) → NodePassed node n property
@@ -34,11 +29,6 @@ node-passed node n property e =
       property-is = ap (λ (u : NodeValues). u .property) v;
       node-rules = accepted-keeps node e;
     }
-
--- 11 to 14, one by one
-pub file-passed : (cert : List ℕ) → lengthOk (length cert) ≡ true → fixedOk (trailerOf cert) ≡ true → countsOk (trailerOf cert) ≡ true → distanceOk (trailerOf cert) (length cert) ≡ true → fileOk cert ≡ true
-unfolding fileOk
-file-passed cert a b c d = rw (a, b, c, d)
 
 module _ (node cert : List ℕ) (t : Trailer) (n property : ℕ) (of-node : NodePassed node n property) (of-file : FilePassed cert t) where
   node-sizes : Sizes node

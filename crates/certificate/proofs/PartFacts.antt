@@ -7,8 +7,8 @@ use Prim.Native.Nat.{ℕ}
 use native.Mathlib.Nat.{sub-zero, add-sub-cancel-left}
 use Rattle.answers.specs.Checks.{every}
 use Rattle.constraints.specs.Layout.{Line, lineOf}
+use Rattle.rules.specs.Lines.{hasLiterals, hasEmpty, baseWindow, stepWindow}
 use Rattle.certificate.specs.Checking.{linesStart}
-use Rattle.certificate.specs.Lines.{hasLiterals, hasEmpty, baseWindow, stepWindow}
 use Rattle.certificate.specs.Ready.{linesAt}
 use Rattle.certificate.proofs.Settings.{lines-are}
 

@@ -1,21 +1,18 @@
 -- What was read of both files before the lines are checked, put to use: where a line stands, and its rule as the verdict has it.
 -- Assumes nothing.
-use mathlib.Core.Path.{_≡_, refl, sym, _∙_, ap, fun-ext}
-use mathlib.Core.Bool.{Bool, true, false, cond}
+use mathlib.Core.Path.{_≡_, sym, _∙_, ap, fun-ext}
 use mathlib.Core.List.{List}
 use Prim.Native.Nat.{ℕ, _+_, _*_, _<_, _≤_}
 use native.Mathlib.Omega.{arith}
-use borrow.Author.Tests.{lt-ltb, le-ltb}
-use lib.Dec.{ltb}
 use lib.ListN.{length}
 use Rattle.constraints.specs.declared.layout.LineHead.{LineHead}
 use Rattle.constraints.specs.declared.layout.Trailer.{Trailer}
 use Rattle.constraints.specs.Layout.{Line, trailerOf, sizeOf, lineHeadAt, lineAt, lineOf}
 use Rattle.constraints.specs.Rules.{Sorts, sortsOf}
+use Rattle.rules.specs.Lines.{shapeOk}
+use Rattle.rules.specs.Verdict.{sortsOfNode, shapePasses}
 use Rattle.certificate.specs.Checking.{Checking, linesStart}
-use Rattle.certificate.specs.Lines.{Window, baseWindow, stepWindow, shapeOk}
 use Rattle.certificate.specs.Ready.{linesAt}
-use Rattle.certificate.specs.Verdict.{sortsOfNode, partOf, firstLine, shapePasses}
 
 module _ (cert : List ℕ) where
   pub line-fits : sizeOf (trailerOf cert) ≤ length cert → (i : ℕ) → i < trailerOf cert .base + trailerOf cert .step → linesStart cert + 80 * (i + 1) ≤ length cert
@@ -33,25 +30,6 @@ module _ (cert : List ℕ) where
 
   pub lines-are : lineOf cert ≡ linesAt cert (linesStart cert)
   lines-are = fun-ext line-is
-
-  -- the part that a line stands in
-  pub part-base : (property i : ℕ) → i < trailerOf cert .base → partOf cert property i ≡ baseWindow (trailerOf cert .depth) property (trailerOf cert .base)
-  part-base property i l = rw (lt-ltb i (trailerOf cert .base) l)
-
-  pub part-step : (property i : ℕ) → trailerOf cert .base ≤ i → partOf cert property i ≡ stepWindow (trailerOf cert .depth) property (trailerOf cert .base) (trailerOf cert .step)
-  part-step property i l = rw (le-ltb i (trailerOf cert .base) l)
-
-  -- where a part begins does not depend on the property
-  pub from-is : (property i : ℕ) → partOf cert property i .from ≡ firstLine cert i
-  from-is property i = go (ltb i (trailerOf cert .base))
-    where
-      window : (property : ℕ) → Bool → Window
-      window p b =
-          cond b (baseWindow (trailerOf cert .depth) p (trailerOf cert .base)) (stepWindow (trailerOf cert .depth) p (trailerOf cert .base) (trailerOf cert .step))
-
-      go : (b : Bool) → window property b .from ≡ window 0 b .from
-      go true = refl
-      go false = refl
 
 module _ (node cert sorts : List ℕ) (t : Trailer) (n property : ℕ) (ch : Checking node cert sorts t n property) where
   pub sorts-are : sortsOf sorts ≡ sortsOfNode node

@@ -11,7 +11,7 @@ use lib.Dec.{ltb}
 use lib.ListN.{length, getD, set, replicate}
 use lib.Seq.{getD-set-same, getD-set-other}
 use Rattle.node.specs.Equations.{kindAt}
-use Rattle.certificate.specs.Sorts.{sortOf, sortsBelow}
+use Rattle.rules.specs.Sorts.{sortOf, sortsBelow}
 
 getD-replicate : (n x d : ℕ) → getD (replicate n d) x d ≡ d
 getD-replicate zero x d = refl

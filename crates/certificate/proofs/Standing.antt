@@ -5,7 +5,7 @@ use mathlib.Core.Bool.{false, _||_}
 use Prim.Native.Nat.{ℕ, suc, _+_, _-_, _<_, _≤_}
 use native.Mathlib.Omega.{arith}
 use lib.Dec.{eqb}
-use Rattle.certificate.specs.Joins.{standsFrom}
+use Rattle.rules.specs.Joins.{standsFrom}
 
 module _ (literal : ℕ → ℕ) (l j count : ℕ) where
   pub stands-past : count ≤ j → standsFrom literal l j (count - j) ≡ false

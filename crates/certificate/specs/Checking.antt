@@ -9,8 +9,8 @@ use Rattle.constraints.specs.declared.layout.Trailer.{Trailer}
 use Rattle.constraints.specs.Layout.{trailerOf, startOf}
 use Rattle.constraints.specs.Ready.{Ready}
 use Rattle.constraints.specs.Rules.{sortsOf}
-use Rattle.certificate.specs.Note.{fileOk}
-use Rattle.certificate.specs.Verdict.{sortsOfNode}
+use Rattle.rules.specs.Note.{fileOk}
+use Rattle.rules.specs.Verdict.{sortsOfNode}
 
 -- where line 0 stands
 abbrev pub linesStart : List ℕ → ℕ

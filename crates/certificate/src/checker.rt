@@ -12,8 +12,8 @@ use constraints::line_head;
 ghost use Prim.Native.Nat.{_+_, _<_};
 ghost use mathlib.Core.Path.{_≡_};
 ghost use Rattle.answers.specs.Answer.{numberOf, certificateAnswer};
+ghost use Rattle.rules.specs.Verdict.{lineNumber, linesVerdict};
 ghost use Rattle.certificate.specs.Checking.{Checking};
-ghost use Rattle.certificate.specs.Verdict.{lineNumber, linesVerdict};
 
 // The rule that line i breaks, if it breaks one: 16 before its kind's.
 fn broken_rule(

@@ -1,22 +1,22 @@
 // Rule 17: equation lines.
-use clauses::Clause;
-use clauses::Named;
-use clauses::Place;
 use clauses::clause_of;
 use clauses::matches;
 use constraints::line_head;
 use constraints::literal_at;
 use node::equation_of;
 use node::kind_of;
+use rules::Clause;
+use rules::Named;
+use rules::Place;
 ghost use Prim.Native.Nat.{_+_, _≤_};
 ghost use mathlib.Core.Path.{_≡_};
 ghost use lib.ListN.{length};
+ghost use Rattle.node.specs.Equations.{kindAt, equationAt};
 ghost use Rattle.constraints.specs.Layout.{lineAt};
+ghost use Rattle.rules.specs.Lines.{clauseIs, placeOf, equationIn};
 ghost use Rattle.clauses.specs.Matching.{Readable, SmallPattern};
 ghost use Rattle.arithmetic.specs.Sums.{constraintsFrom};
-ghost use Rattle.node.specs.Equations.{kindAt, equationAt};
 ghost use Rattle.certificate.specs.Constants.{ConstantsLimited};
-ghost use Rattle.certificate.specs.Lines.{clauseIs, placeOf, equationIn};
 
 // The literals of the line at an offset are those of a clause, in its order.
 fn is_clause(cert: &[u8], start: usize, m: usize, at: usize, c: Clause) -> bool

@@ -6,7 +6,7 @@ use constraints::trailer_of;
 ghost use mathlib.Core.Path.{_≡_};
 ghost use lib.ListN.{take};
 ghost use Rattle.node.specs.Rules.{lengthOk};
-ghost use Rattle.certificate.specs.Note.{fileOk, noteLength};
+ghost use Rattle.rules.specs.Note.{fileOk, noteLength};
 
 // Rule 11.
 pub fn length_ok(size: usize) -> bool

@@ -7,8 +7,8 @@ ghost use Prim.Native.Nat.{ℕ, _+_, _<_};
 ghost use mathlib.Core.Path.{_≡_};
 ghost use mathlib.Core.Bool.{true};
 ghost use Rattle.answers.specs.Checks.{lowest};
+ghost use Rattle.rules.specs.Verdict.{linePasses};
 ghost use Rattle.certificate.specs.Checking.{Checking};
-ghost use Rattle.certificate.specs.Verdict.{linePasses};
 
 // Line i keeps its rules, where the lines before it do.
 fn line_passes(

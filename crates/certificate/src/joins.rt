@@ -7,7 +7,7 @@ ghost use Prim.Native.Nat.{_+_, _*_, _<_, _≤_};
 ghost use mathlib.Core.Path.{_≡_};
 ghost use lib.ListN.{length};
 ghost use Rattle.constraints.specs.Layout.{lineAt};
-ghost use Rattle.certificate.specs.Joins.{joins, joinOk};
+ghost use Rattle.rules.specs.Joins.{joins, joinOk};
 ghost use Rattle.certificate.specs.Ready.{LinesReady, linesAt};
 
 // Literal r stands in the line at p and its opposite in the line at q, and what is left of both stands in the line at an offset.

@@ -12,11 +12,11 @@ ghost use mathlib.Core.Path.{_≡_};
 ghost use mathlib.Core.Bool.{true};
 ghost use lib.ListN.{length};
 ghost use Rattle.constraints.specs.Layout.{trailerOf, sizeOf, startOf, constraintOf, lineOf};
-ghost use Rattle.arithmetic.specs.Arithmetic.{arithmeticOk};
+ghost use Rattle.rules.specs.Arithmetic.{arithmeticOk};
+ghost use Rattle.rules.specs.Joins.{joinOk};
+ghost use Rattle.rules.specs.Verdict.{shapePasses, equationPasses, kindPasses, partOf, firstLine};
 ghost use Rattle.certificate.specs.Checking.{Checking, linesStart};
-ghost use Rattle.certificate.specs.Joins.{joinOk};
 ghost use Rattle.certificate.specs.Ready.{LinesReady};
-ghost use Rattle.certificate.specs.Verdict.{shapePasses, equationPasses, kindPasses, partOf, firstLine};
 
 // Where constraint 0 stands.
 pub fn start_of(cert: &[u8], t: Trailer) -> usize

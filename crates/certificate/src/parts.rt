@@ -5,7 +5,7 @@ ghost use mathlib.Core.Path.{_≡_};
 ghost use mathlib.Core.Bool.{not};
 ghost use lib.ListN.{length};
 ghost use Rattle.answers.specs.Checks.{every};
-ghost use Rattle.certificate.specs.Lines.{hasLiterals};
+ghost use Rattle.rules.specs.Lines.{hasLiterals};
 ghost use Rattle.certificate.specs.Ready.{linesAt};
 
 // Whether one of the n lines from `from` on has no literal, where line 0 stands at an offset.

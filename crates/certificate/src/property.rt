@@ -6,7 +6,7 @@ ghost use mathlib.Core.Path.{_≡_};
 ghost use lib.ListN.{length};
 ghost use Rattle.answers.specs.Checks.{every};
 ghost use Rattle.constraints.specs.Layout.{lineAt, literalAt};
-ghost use Rattle.certificate.specs.Lines.{notPropertyAt, basePropertyOk, stepPropertyOk};
+ghost use Rattle.rules.specs.Lines.{notPropertyAt, basePropertyOk, stepPropertyOk};
 
 // The first k literals of the line at an offset are not-prop at offsets 0 to k - 1.
 fn are_not_property(file: &[u8], at: usize, k: usize, prop: u16) -> bool

@@ -16,8 +16,8 @@ use constraints::fixed_ok;
 use constraints::trailer_of;
 ghost use mathlib.Core.Path.{_≡_};
 ghost use Rattle.answers.specs.Answer.{certificateAnswer};
+ghost use Rattle.rules.specs.Verdict.{constraintsVerdict, certificateVerdict, verdictOf};
 ghost use Rattle.certificate.specs.Checking.{NodePassed, FilePassed};
-ghost use Rattle.certificate.specs.Verdict.{constraintsVerdict, certificateVerdict, verdictOf};
 
 // Rules 15 to 21, where 1 to 8 and 11 to 14 have passed.
 fn constraints_verdict(

@@ -5,7 +5,7 @@ ghost use mathlib.Core.Path.{_≡_};
 ghost use lib.ListN.{length};
 ghost use Rattle.answers.specs.Checks.{every};
 ghost use Rattle.constraints.specs.Layout.{literalAt};
-ghost use Rattle.certificate.specs.Joins.{standsFrom, coveredBy};
+ghost use Rattle.rules.specs.Joins.{standsFrom, coveredBy};
 
 // Literal l stands among those from j on of the line at an offset, which lists count.
 pub fn stands_from(file: &[u8], at: usize, count: usize, l: u16, j: usize) -> bool

@@ -11,8 +11,8 @@ ghost use lib.ListN.{length};
 ghost use Rattle.answers.specs.Checks.{every};
 ghost use Rattle.constraints.specs.Layout.{lineAt, literalAt, multiplierAt};
 ghost use Rattle.constraints.specs.Rules.{sortsOf};
-ghost use Rattle.clauses.specs.Literals.{namesAtom};
-ghost use Rattle.certificate.specs.Lines.{multiplierOk, slotOk, numbersOk, shapeOk};
+ghost use Rattle.rules.specs.Literals.{namesAtom};
+ghost use Rattle.rules.specs.Lines.{multiplierOk, slotOk, numbersOk, shapeOk};
 
 // The number names an atom, at depth k with m constraints.
 fn names_atom(sorts: &[u8], k: u8, m: u16, atom: usize) -> bool

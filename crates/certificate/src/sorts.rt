@@ -5,7 +5,7 @@ ghost use Prim.Native.Nat.{ℕ, _≤_};
 ghost use mathlib.Core.Path.{_≡_};
 ghost use lib.ListN.{length};
 ghost use Rattle.constraints.specs.Rules.{sortsOf};
-ghost use Rattle.certificate.specs.Sorts.{sortOf, sortsBelow};
+ghost use Rattle.rules.specs.Sorts.{sortOf, sortsBelow};
 
 fn sort_of(kind: Kind) -> u8
     ensures { λ r. ⌜ r ≡ sortOf kind ⌝ }

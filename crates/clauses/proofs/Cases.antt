@@ -9,10 +9,10 @@ use lib.Signed.{leZ}
 use Rattle.node.specs.declared.equation.Kind.{Kind}
 use Rattle.node.specs.declared.equation.Kind.the-variants.{Bool as BoolKind, Int as IntKind}
 use Rattle.node.specs.declared.equation.Equation.the-variants.{Constant, Arrow, FollowedBy}
-use Rattle.clauses.specs.declared.pattern.Pattern.the-variants.{Yes, No}
-use Rattle.clauses.specs.declared.pattern.Place.{Place}
-use Rattle.clauses.specs.declared.pattern.Place.the-variants.{Opening, Unsure, Inner}
-use Rattle.clauses.specs.Clauses.{clause1, sameAs, clauses}
+use Rattle.rules.specs.declared.pattern.Pattern.the-variants.{Yes, No}
+use Rattle.rules.specs.declared.pattern.Place.{Place}
+use Rattle.rules.specs.declared.pattern.Place.the-variants.{Opening, Unsure, Inner}
+use Rattle.rules.specs.Clauses.{clause1, sameAs, clauses}
 use Rattle.clauses.specs.Operators.{over}
 
 -- a bool's constant

@@ -1,7 +1,6 @@
-pub mod Numbering
-pub mod Widening
 pub mod Cases
 pub mod Coefficients
-pub mod Literals
-pub mod Contents
 pub mod Limits
+pub mod Literals
+pub mod Numbering
+pub mod Widening

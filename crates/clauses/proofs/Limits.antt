@@ -12,14 +12,14 @@ use Rattle.node.specs.declared.equation.Kind.{Kind}
 use Rattle.node.specs.declared.equation.Kind.the-variants.{Bool as BoolKind, Int as IntKind}
 use Rattle.node.specs.declared.equation.Equation.{Equation}
 use Rattle.node.specs.declared.equation.Equation.the-variants.{Input, Constant, Not, And, Or, Same, Sum, Difference, Multiple, AtMost, Equal, If, Arrow, FollowedBy}
-use Rattle.clauses.specs.declared.pattern.Clause.{Clause}
-use Rattle.clauses.specs.declared.pattern.Named.{Named}
-use Rattle.clauses.specs.declared.pattern.Named.the-variants.{Is, Missing}
-use Rattle.clauses.specs.declared.pattern.Pattern.{Pattern}
-use Rattle.clauses.specs.declared.pattern.Pattern.the-variants.{Yes, No}
-use Rattle.clauses.specs.declared.pattern.Place.{Place}
-use Rattle.clauses.specs.declared.pattern.Place.the-variants.{Opening, Unsure, Inner}
-use Rattle.clauses.specs.Clauses.{most, less, clause1, clause2, clause3, equalTo, sameAs, guarded, clauses, numbered}
+use Rattle.rules.specs.declared.pattern.Clause.{Clause}
+use Rattle.rules.specs.declared.pattern.Named.{Named}
+use Rattle.rules.specs.declared.pattern.Named.the-variants.{Is, Missing}
+use Rattle.rules.specs.declared.pattern.Pattern.{Pattern}
+use Rattle.rules.specs.declared.pattern.Pattern.the-variants.{Yes, No}
+use Rattle.rules.specs.declared.pattern.Place.{Place}
+use Rattle.rules.specs.declared.pattern.Place.the-variants.{Opening, Unsure, Inner}
+use Rattle.rules.specs.Clauses.{most, less, clause1, clause2, clause3, equalTo, sameAs, guarded, clauses, numbered}
 use Rattle.clauses.specs.Matching.{SmallPattern}
 use Rattle.clauses.specs.Limits.{constantOf, SmallClause, AllSmall}
 

@@ -8,10 +8,10 @@ use lib.Dec.{eqb}
 use borrow.Author.Tests.{eqb-true, eqb-false, eq-eqb, ne-eqb, le-leb, lt-leb, lt-ltb, le-ltb}
 use Rattle.constraints.specs.Layout.{Constraint}
 use Rattle.constraints.specs.Linear.{sameContent, boundedOf as ofConstraint}
-use Rattle.clauses.specs.declared.pattern.Linear.{Linear}
-use Rattle.clauses.specs.Clauses.{boundedOf}
-use Rattle.clauses.specs.Literals.{positive, negative, atomOf, isNegated, constraintNumber}
-use Rattle.clauses.specs.Matching.{saysMost}
+use Rattle.rules.specs.declared.pattern.Linear.{Linear}
+use Rattle.rules.specs.Clauses.{boundedOf}
+use Rattle.rules.specs.Literals.{positive, negative, atomOf, isNegated, constraintNumber}
+use Rattle.rules.specs.Matching.{saysMost}
 
 module _ (l x : ℕ) where
   positive-case : (t u : Bool) → eqb (l % 2) 1 ≡ t → eqb (l / 2) x ≡ u → (not t && u) ≡ eqb l (2 * x)

@@ -6,10 +6,10 @@ use Prim.Native.Nat.{ℕ, zero, suc, _≤_}
 use native.Mathlib.Nat.{not-suc-le-zero, le-of-suc-le-suc}
 use lib.IntN.{ℤ}
 use lib.ListN.{length}
-use Rattle.clauses.specs.declared.pattern.Clause.{Clause}
-use Rattle.clauses.specs.declared.pattern.Named.the-variants.{Missing}
-use Rattle.clauses.specs.declared.pattern.Pattern.the-variants.{Most}
-use Rattle.clauses.specs.Clauses.{linear, clause1, numbered}
+use Rattle.rules.specs.declared.pattern.Clause.{Clause}
+use Rattle.rules.specs.declared.pattern.Named.the-variants.{Missing}
+use Rattle.rules.specs.declared.pattern.Pattern.the-variants.{Most}
+use Rattle.rules.specs.Clauses.{linear, clause1, numbered}
 
 pub past-end : (cs : List Clause) (r : ℕ) → length cs ≤ r → numbered cs r ≡ Missing
 past-end [] r l = refl

@@ -4,7 +4,7 @@ use mathlib.Core.Bool.{Bool, cond}
 use lib.Dec.{eqb}
 use lib.IntN.{ℤ, pos, natAbs}
 use Rattle.constraints.specs.Linear.{Monomial, Form, coefficient, sameZ}
-use Rattle.clauses.specs.declared.pattern.Linear.{Linear}
+use Rattle.rules.specs.declared.pattern.Linear.{Linear}
 
 -- what a monomial adds to the coefficient at x
 abbrev pub share : Monomial → ℕ → ℤ

@@ -1,6 +1,4 @@
-pub mod Literals
-pub mod Clauses
-pub mod Operators
 pub mod Content
-pub mod Matching
 pub mod Limits
+pub mod Matching
+pub mod Operators

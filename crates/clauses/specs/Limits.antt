@@ -3,7 +3,7 @@ use mathlib.Core.List.{List, [], _∷_}
 use lib.IntN.{ℤ, pos}
 use Rattle.node.specs.declared.equation.Equation.{Equation}
 use Rattle.node.specs.declared.equation.Equation.the-variants.{Input, Constant, Not, And, Or, Same, Sum, Difference, Multiple, AtMost, Equal, If, Arrow, FollowedBy}
-use Rattle.clauses.specs.declared.pattern.Clause.{Clause}
+use Rattle.rules.specs.declared.pattern.Clause.{Clause}
 use Rattle.clauses.specs.Matching.{SmallPattern}
 
 -- K, or 0 where an operator has none

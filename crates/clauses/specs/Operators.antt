@@ -3,9 +3,9 @@ use Prim.Native.Nat.{ℕ}
 use mathlib.Core.List.{List}
 use Rattle.node.specs.declared.equation.Kind.{Kind}
 use Rattle.node.specs.declared.equation.Equation.{Equation}
-use Rattle.clauses.specs.declared.pattern.Clause.{Clause}
-use Rattle.clauses.specs.declared.pattern.Place.the-variants.{Inner}
-use Rattle.clauses.specs.Clauses.{clauses}
+use Rattle.rules.specs.declared.pattern.Clause.{Clause}
+use Rattle.rules.specs.declared.pattern.Place.the-variants.{Inner}
+use Rattle.rules.specs.Clauses.{clauses}
 
 abbrev pub over : Kind → Equation → (s : ℕ) → List Clause
 over kind e s = clauses kind e Inner (λ x. x) (λ x. x) s

@@ -1,15 +1,15 @@
 // "constraints .. compared by content": a constraint of the file against one of a clause.
-use crate::pattern::Linear;
 use crate::window::var;
 use constraints::constraint_head;
 use constraints::term_at;
+use rules::Linear;
 ghost use Prim.Native.Nat.{_+_, _<_, _≤_};
 ghost use mathlib.Core.Path.{_≡_};
 ghost use lib.IntN.{natAbs};
 ghost use lib.ListN.{length};
 ghost use Rattle.constraints.specs.Layout.{headAt, termAt, constraintAt};
 ghost use Rattle.constraints.specs.Linear.{monomial, coefficient, written, sameZ, agreeAt, sameContent, boundedOf as ofConstraint};
-ghost use Rattle.clauses.specs.Clauses.{boundedOf};
+ghost use Rattle.rules.specs.Clauses.{boundedOf};
 ghost use Rattle.clauses.specs.Content.{share, agree, Small};
 
 // What a term adds to the coefficient at x.

@@ -4,15 +4,9 @@ mod lists;
 mod literal;
 mod matching;
 mod operators;
-mod pattern;
 mod window;
 
 pub use content::same_content;
 pub use literal::Literal;
 pub use matching::matches;
-pub use pattern::Clause;
-pub use pattern::Linear;
-pub use pattern::Named;
-pub use pattern::Pattern;
-pub use pattern::Place;
 pub use window::clause_of;

@@ -1,11 +1,11 @@
 // Patterns and clauses by their parts, and a clause of a list by its number.
-use crate::pattern::Clause;
-use crate::pattern::Linear;
-use crate::pattern::Named;
-use crate::pattern::Pattern;
+use rules::Clause;
+use rules::Linear;
+use rules::Named;
+use rules::Pattern;
 ghost use mathlib.Core.Path.{_≡_};
 ghost use mathlib.Core.List.{[], _∷_};
-ghost use Rattle.clauses.specs.Clauses.{most, less, clause1, clause2, clause3, numbered};
+ghost use Rattle.rules.specs.Clauses.{most, less, clause1, clause2, clause3, numbered};
 
 // "x ≤ y"
 pub fn most(x: usize, y: usize) -> Pattern

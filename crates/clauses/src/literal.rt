@@ -1,6 +1,6 @@
 // A literal by value: "A literal is 2·atom, plus 1 if negated".
 ghost use mathlib.Core.Path.{_≡_};
-ghost use Rattle.clauses.specs.Literals.{atomOf, isNegated, oppositeOf};
+ghost use Rattle.rules.specs.Literals.{atomOf, isNegated, oppositeOf};
 
 pub struct Literal(pub u16);
 

@@ -1,15 +1,16 @@
 // A literal of a line against one of a clause.
 use crate::content::same_content;
 use crate::literal::Literal;
-use crate::pattern::Linear;
-use crate::pattern::Pattern;
+use rules::Linear;
+use rules::Pattern;
 ghost use Prim.Native.Nat.{_+_, _*_};
 ghost use mathlib.Core.Path.{_≡_};
 ghost use lib.Dec.{eqb};
 ghost use Rattle.constraints.specs.Layout.{constraintAt};
+ghost use Rattle.rules.specs.Literals.{positive, negative};
+ghost use Rattle.rules.specs.Matching.{saysMost, matchesOf};
 ghost use Rattle.clauses.specs.Content.{Small};
-ghost use Rattle.clauses.specs.Literals.{positive, negative};
-ghost use Rattle.clauses.specs.Matching.{saysMost, matchesOf, Readable, SmallPattern};
+ghost use Rattle.clauses.specs.Matching.{Readable, SmallPattern};
 
 // By its sign and atom, since twice an atom may not fit.
 fn is_yes(literal: u16, x: usize) -> bool

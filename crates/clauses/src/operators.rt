@@ -8,15 +8,15 @@ use crate::lists::of_two;
 use crate::lists::one;
 use crate::lists::three;
 use crate::lists::two;
-use crate::pattern::Linear;
-use crate::pattern::Named;
-use crate::pattern::Pattern;
 use node::Kind;
+use rules::Linear;
+use rules::Named;
+use rules::Pattern;
 ghost use mathlib.Core.Path.{_≡_};
 ghost use lib.IntN.{negℤ};
 ghost use Rattle.node.specs.declared.equation.Kind.the-variants.{Bool as BoolKind, Int as IntKind};
 ghost use Rattle.node.specs.declared.equation.Equation.the-variants.{Constant, Not, And, Or, Same, Multiple, AtMost, Equal, If};
-ghost use Rattle.clauses.specs.Clauses.{equalTo, sameAs, numbered};
+ghost use Rattle.rules.specs.Clauses.{equalTo, sameAs, numbered};
 ghost use Rattle.clauses.specs.Operators.{over};
 
 // A constant, and its negation, in 64 bits.

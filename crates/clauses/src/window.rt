@@ -10,15 +10,15 @@ use crate::operators::not;
 use crate::operators::or;
 use crate::operators::same;
 use crate::operators::same_as;
-use crate::pattern::Named;
-use crate::pattern::Place;
 use node::Equation;
 use node::Kind;
+use rules::Named;
+use rules::Place;
 ghost use Prim.Native.Nat.{_-_};
 ghost use mathlib.Core.Path.{_≡_};
 ghost use Rattle.node.specs.declared.equation.Equation.the-variants.{Arrow};
 ghost use Rattle.constraints.specs.Linear.{variable};
-ghost use Rattle.clauses.specs.Clauses.{clauses, numbered};
+ghost use Rattle.rules.specs.Clauses.{clauses, numbered};
 
 // Stream x at an offset, as one number.
 pub fn var(offset: u8, x: u16) -> usize

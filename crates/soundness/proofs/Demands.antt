@@ -14,7 +14,7 @@ use Rattle.node.specs.Layout.{propertyOf}
 use Rattle.node.specs.Verdict.{verdictOf as nodeVerdict}
 use Rattle.node.proofs.FileRules.{sizes}
 use Rattle.node.proofs.Outcomes.{accepted-keeps as node-keeps, keeps-accepted}
-use Rattle.certificate.proofs.Outcomes.{accepted-keeps}
+use Rattle.rules.proofs.Outcomes.{accepted-keeps}
 use Rattle.streams.specs.Nodes.{nodeOf}
 use Rattle.streams.specs.Typing.{Inputs, TypedInstant, TypedInputs}
 use Rattle.streams.proofs.AcceptedNodes.{one-solution}
@@ -22,7 +22,7 @@ use Rattle.session.specs.Lists.{Answered, call}
 use Rattle.session.specs.Theorems.{Shows}
 use Rattle.session.proofs.Sessions.{sessions-exact}
 use Rattle.soundness.specs.Demands.{ShowsProperty, Demand3}
-use Rattle.soundness.specs.Theorems.{PropertyHolds}
+use Rattle.rules.specs.Theorems.{PropertyHolds}
 use Rattle.soundness.proofs.Soundness.{sound}
 
 module _ (node : List ℕ) {v : NodeValues} (e : nodeVerdict node ≡ accepted v) (holds : PropertyHolds node) (done : List Answered) (shows : Shows node done) where

@@ -20,11 +20,11 @@ use Rattle.node.specs.Table.{rowOf}
 use Rattle.node.specs.Verdict.{recordsVerdict, verdictOf as nodeVerdict}
 use Rattle.constraints.specs.Linear.{written}
 use Rattle.constraints.specs.Rules.{fixedOk as certFixed, countsOk as certCounts, distanceOk as certDistance, constraintOk, termOk, usedOk, rises, unusedOk as termUnused}
-use Rattle.clauses.specs.Literals.{namesAtom}
-use Rattle.arithmetic.specs.Arithmetic.{sumOf, arithmeticOk}
-use Rattle.certificate.specs.Joins.{standsFrom, joins, joinOk}
-use Rattle.certificate.specs.Lines.{slotOk, numbersOk, shapeOk as lineShape, basePropertyOk, stepPropertyOk, clauseIs, equationIn, kindOk}
-use Rattle.certificate.specs.Verdict.{shapePasses, kindPasses, linesVerdict, constraintsVerdict, certificateVerdict, verdictOf}
+use Rattle.rules.specs.Literals.{namesAtom}
+use Rattle.rules.specs.Arithmetic.{sumOf, arithmeticOk}
+use Rattle.rules.specs.Joins.{standsFrom, joins, joinOk}
+use Rattle.rules.specs.Lines.{slotOk, numbersOk, shapeOk as lineShape, basePropertyOk, stepPropertyOk, clauseIs, equationIn, kindOk}
+use Rattle.rules.specs.Verdict.{shapePasses, kindPasses, linesVerdict, constraintsVerdict, certificateVerdict, verdictOf}
 use Rattle.streams.specs.Evaluation.{upTo, evaluated, instant}
 use Rattle.streams.specs.Values.{equals, truth, valuesIn}
 use Rattle.session.specs.Instants.{inputFits, workedOut, valueFits, answerOf, sliceOf}

@@ -7,14 +7,14 @@ use lib.ListN.{length}
 use Rattle.answers.specs.Answer.{accepted, CertificateValues}
 use Rattle.node.specs.Layout.{streamsOf, propertyOf}
 use Rattle.node.specs.Verdict.{verdictOf as nodeVerdict}
-use Rattle.certificate.specs.Verdict.{verdictOf}
+use Rattle.rules.specs.Verdict.{verdictOf}
 use Rattle.streams.specs.Theorems.{OneSolution}
 use Rattle.streams.specs.Values.{valuesIn}
 use Rattle.session.specs.declared.Session.{Session}
 use Rattle.session.specs.Lists.{Call, Answered, answered, call}
 use Rattle.session.specs.Records.{begunOf}
 use Rattle.session.specs.Theorems.{Shows}
-use Rattle.soundness.specs.Theorems.{PropertyHolds}
+use Rattle.rules.specs.Theorems.{PropertyHolds}
 
 -- "the property's number is 1", in every answered call's slice
 abbrev pub ShowsProperty : (node : List ℕ) → List Answered → Type 0

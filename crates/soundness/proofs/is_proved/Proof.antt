@@ -4,7 +4,7 @@ use mathlib.Core.Path.{_≡_, sym, _∙_, ap}
 use mathlib.Core.Bool.{false≢true}
 use denote.Ref.{now}
 use Rattle.answers.specs.Answer.{certificateAnswer}
-use Rattle.certificate.specs.Verdict.{verdictOf}
+use Rattle.rules.specs.Verdict.{verdictOf}
 use Rattle.soundness.proofs.Soundness.{sound}
 use borrow.Author.Needs.{needs}
 use Rattle.soundness.proofs.is_proved.Statement.{statement}

@@ -7,7 +7,7 @@ use borrow.Author.Needs.{needs}
 use mir.Syntax.{w64}
 use mir.Val.{toZ}
 use Rattle.constraints.specs.Layout.{lineAt}
-use Rattle.arithmetic.specs.Arithmetic.{sumOf}
+use Rattle.rules.specs.Arithmetic.{sumOf}
 use Rattle.arithmetic.specs.Sums.{constraintsFrom}
 use Rattle.arithmetic.proofs.Turns.{bound-fits, bound-turn}
 use Rattle.arithmetic.proofs.sums.bound_of.Statement.{statement}

@@ -9,7 +9,7 @@ use mir.Val.{SFits}
 use mir.Facts.{toZ-ofZ}
 use Rattle.integers.proofs.Reading.{rd}
 use Rattle.constraints.specs.Layout.{lineAt, literalAt, multiplierAt}
-use Rattle.arithmetic.specs.Arithmetic.{sumOf}
+use Rattle.rules.specs.Arithmetic.{sumOf}
 use Rattle.arithmetic.specs.Sums.{addForm, sumsOf, constraintsFrom}
 use Rattle.arithmetic.proofs.Adding.{abs-factor}
 use Rattle.arithmetic.proofs.Turns.{sums-within, literal-turn}

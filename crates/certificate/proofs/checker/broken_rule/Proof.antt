@@ -7,7 +7,7 @@ use native.Mathlib.Omega.{arith}
 use borrow.Author.Tests.{not-true, not-false}
 use denote.Ref.{now}
 use Rattle.constraints.specs.Layout.{Line, trailerOf, lineOf}
-use Rattle.certificate.specs.Verdict.{shapePasses}
+use Rattle.rules.specs.Verdict.{shapePasses}
 use Rattle.certificate.proofs.LineFacts.{line-shape}
 use Rattle.certificate.proofs.Settings.{line-fits, line-is, kind-read}
 use borrow.Author.Needs.{needs}

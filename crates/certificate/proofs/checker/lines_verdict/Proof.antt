@@ -14,8 +14,8 @@ use Rattle.answers.proofs.Lowest.{first}
 use Rattle.node.specs.Layout.{propertyOf}
 use Rattle.constraints.specs.declared.layout.Trailer.{Trailer}
 use Rattle.constraints.specs.Layout.{trailerOf, lineOf}
-use Rattle.certificate.specs.Lines.{hasEmpty, baseWindow, stepWindow}
-use Rattle.certificate.specs.Verdict.{linePasses, linesVerdict}
+use Rattle.rules.specs.Lines.{hasEmpty, baseWindow, stepWindow}
+use Rattle.rules.specs.Verdict.{linePasses, linesVerdict}
 use Rattle.certificate.proofs.PartFacts.{empty-base, empty-step}
 use borrow.Author.Needs.{needs}
 use Rattle.certificate.proofs.checker.lines_verdict.Statement.{statement}

@@ -13,12 +13,12 @@ use Rattle.node.specs.Equations.{kindAt, equationAt}
 use Rattle.constraints.specs.declared.layout.LineHead.{LineHead}
 use Rattle.constraints.specs.Layout.{lineHeadAt, lineAt}
 use Rattle.constraints.specs.Linear.{variable}
-use Rattle.clauses.specs.declared.pattern.Named.{Named}
-use Rattle.clauses.specs.Clauses.{clauses, numbered}
+use Rattle.rules.specs.declared.pattern.Named.{Named}
+use Rattle.rules.specs.Clauses.{clauses, numbered}
+use Rattle.rules.specs.Lines.{placeOf, literalsAre, equationIn}
 use Rattle.clauses.specs.Limits.{SmallClause}
 use Rattle.clauses.proofs.Limits.{small-clauses, small-named}
 use Rattle.arithmetic.specs.Sums.{constraintsFrom}
-use Rattle.certificate.specs.Lines.{placeOf, literalsAre, equationIn}
 use borrow.Author.Needs.{needs}
 use Rattle.certificate.proofs.equations.equation_ok.Statement.{statement}
 use Rattle.certificate.proofs.equations.equation_ok.Tie as tie

@@ -1,6 +1,6 @@
 -- `certificate::is_clause` meets its contract: the tests in a row, of the literals that were read.
 -- Assumes nothing.
-use Rattle.certificate.specs.Lines.{clauseIs}
+use Rattle.rules.specs.Lines.{clauseIs}
 use borrow.Author.Needs.{needs}
 use Rattle.certificate.proofs.equations.is_clause.Statement.{statement}
 use Rattle.certificate.proofs.equations.is_clause.Tie as tie

@@ -2,8 +2,8 @@
 -- Assumes nothing.
 use mathlib.Core.Path.{sym, _∙_}
 use borrow.Author.Tests.{not-true, not-false}
-use Rattle.certificate.specs.Note.{fileOk}
-use Rattle.certificate.proofs.FileFacts.{long-enough}
+use Rattle.node.proofs.FileRules.{long-enough}
+use Rattle.rules.specs.Note.{fileOk}
 use borrow.Author.Needs.{needs}
 use Rattle.certificate.proofs.file_note.file_ok.Statement.{statement}
 use Rattle.certificate.proofs.file_note.file_ok.Tie as tie

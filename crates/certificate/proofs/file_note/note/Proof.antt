@@ -2,7 +2,7 @@
 -- Assumes nothing.
 use mathlib.Core.Path.{sym}
 use lib.Seq.{length-take-le}
-use Rattle.certificate.proofs.FileFacts.{note-fits}
+use Rattle.rules.proofs.FileFacts.{note-fits}
 use borrow.Author.Needs.{needs}
 use Rattle.certificate.proofs.file_note.note.Statement.{statement}
 use Rattle.certificate.proofs.file_note.note.Tie as tie

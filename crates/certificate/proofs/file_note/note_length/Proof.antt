@@ -4,8 +4,8 @@ use mathlib.Core.Path.{_≡_, sym, _∙_}
 use mathlib.Core.Bool.{true}
 use borrow.Author.Tests.{not-true, not-false}
 use denote.Ref.{now}
-use Rattle.certificate.specs.Note.{fileOk, noteLength}
-use Rattle.certificate.proofs.FileFacts.{file-facts}
+use Rattle.rules.specs.Note.{fileOk, noteLength}
+use Rattle.rules.proofs.FileFacts.{file-facts}
 use borrow.Author.Needs.{needs}
 use Rattle.certificate.proofs.file_note.note_length.Statement.{statement}
 use Rattle.certificate.proofs.file_note.note_length.Tie as tie

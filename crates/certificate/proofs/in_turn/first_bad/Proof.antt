@@ -8,7 +8,7 @@ use borrow.Author.Count.{below-none, below-more}
 use borrow.Author.Needs.{needs}
 use borrow.Author.Tests.{not-true, not-false}
 use Rattle.answers.proofs.Lowest.{none, found}
-use Rattle.certificate.specs.Verdict.{linePasses}
+use Rattle.rules.specs.Verdict.{linePasses}
 use Rattle.certificate.proofs.in_turn.first_bad.Statement.{statement}
 use Rattle.certificate.proofs.in_turn.first_bad.Tie as tie
 

@@ -8,7 +8,7 @@ use borrow.Author.Tests.{not-true, not-false}
 use denote.Ref.{now}
 use Rattle.answers.proofs.Tests.{both-true}
 use Rattle.constraints.specs.Layout.{trailerOf}
-use Rattle.certificate.specs.Verdict.{shapePasses, kindPasses}
+use Rattle.rules.specs.Verdict.{shapePasses, kindPasses}
 use Rattle.certificate.proofs.LineFacts.{lines-ready}
 use borrow.Author.Needs.{needs}
 use Rattle.certificate.proofs.in_turn.line_passes.Statement.{statement}

@@ -2,7 +2,7 @@
 -- Assumes nothing.
 use Prim.Native.Nat.{_≤_}
 use native.Mathlib.Nat.{sub-zero}
-use Rattle.certificate.specs.Joins.{joins}
+use Rattle.rules.specs.Joins.{joins}
 use borrow.Author.Needs.{needs}
 use Rattle.certificate.proofs.joins.is_join.Statement.{statement}
 use Rattle.certificate.proofs.joins.is_join.Tie as tie

@@ -9,7 +9,7 @@ use denote.Ref.{now}
 use lib.Dec.{leb, ltb}
 use Rattle.answers.proofs.Tests.{both-true}
 use Rattle.constraints.specs.declared.layout.LineHead.{LineHead}
-use Rattle.certificate.specs.Joins.{isLower, joins, joinOk}
+use Rattle.rules.specs.Joins.{isLower, joins, joinOk}
 use Rattle.certificate.specs.Ready.{linesAt}
 use borrow.Author.Needs.{needs}
 use Rattle.certificate.proofs.joins.join_ok.Statement.{statement}

@@ -4,7 +4,7 @@ use mathlib.Core.Path.{sym, _∙_, ap}
 use Prim.Native.Nat.{_+_, _<_}
 use denote.Ref.{now}
 use Rattle.constraints.specs.Layout.{trailerOf, constraintOf}
-use Rattle.arithmetic.specs.Arithmetic.{arithmeticOk}
+use Rattle.rules.specs.Arithmetic.{arithmeticOk}
 use Rattle.certificate.proofs.LineFacts.{line-checkable}
 use Rattle.certificate.proofs.Settings.{line-is}
 use borrow.Author.Needs.{needs}

@@ -5,11 +5,12 @@ use Prim.Native.Nat.{ℕ}
 use denote.Ref.{now}
 use Rattle.constraints.specs.declared.layout.Trailer.{Trailer}
 use Rattle.constraints.specs.Layout.{Line, lineOf}
-use Rattle.certificate.specs.Joins.{joinOk}
-use Rattle.certificate.specs.Lines.{Window}
-use Rattle.certificate.specs.Verdict.{firstLine}
+use Rattle.rules.specs.Joins.{joinOk}
+use Rattle.rules.specs.Lines.{Window}
+use Rattle.rules.specs.Verdict.{firstLine}
+use Rattle.rules.proofs.LineParts.{part-base, part-step}
 use Rattle.certificate.specs.Ready.{linesAt}
-use Rattle.certificate.proofs.Settings.{lines-are, part-base, part-step}
+use Rattle.certificate.proofs.Settings.{lines-are}
 use borrow.Author.Needs.{needs}
 use Rattle.certificate.proofs.lines.join_passes.Statement.{statement}
 use Rattle.certificate.proofs.lines.join_passes.Tie as tie

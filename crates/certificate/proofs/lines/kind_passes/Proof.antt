@@ -8,10 +8,11 @@ use denote.Ref.{now}
 use lib.Dec.{eqb}
 use Rattle.node.specs.Layout.{propertyOf}
 use Rattle.constraints.specs.Layout.{lineOf}
-use Rattle.certificate.specs.Joins.{joinOk}
-use Rattle.certificate.specs.Lines.{kindOk}
-use Rattle.certificate.specs.Verdict.{partOf, kindPasses}
-use Rattle.certificate.proofs.Settings.{kind-read, from-is}
+use Rattle.rules.specs.Joins.{joinOk}
+use Rattle.rules.specs.Lines.{kindOk}
+use Rattle.rules.specs.Verdict.{partOf, kindPasses}
+use Rattle.rules.proofs.LineParts.{from-is}
+use Rattle.certificate.proofs.Settings.{kind-read}
 use borrow.Author.Needs.{needs}
 use Rattle.certificate.proofs.lines.kind_passes.Statement.{statement}
 use Rattle.certificate.proofs.lines.kind_passes.Tie as tie

@@ -10,7 +10,7 @@ use lib.Dec.{ltb}
 use lib.ListN.{length}
 use Rattle.constraints.specs.declared.layout.Trailer.{Trailer}
 use Rattle.constraints.specs.Layout.{Line, trailerOf, lineAt, lineOf}
-use Rattle.certificate.specs.Lines.{basePropertyOk, stepPropertyOk}
+use Rattle.rules.specs.Lines.{basePropertyOk, stepPropertyOk}
 use Rattle.certificate.proofs.Settings.{line-fits, line-is}
 use borrow.Author.Needs.{needs}
 use Rattle.certificate.proofs.lines.property_passes.Statement.{statement}

@@ -9,7 +9,7 @@ use borrow.Author.Tests.{eq-eqb, ne-eqb}
 use Rattle.answers.specs.Checks.{every}
 use Rattle.answers.proofs.Every.{every-none, every-more, every-not}
 use Rattle.constraints.specs.declared.layout.LineHead.{LineHead}
-use Rattle.certificate.specs.Lines.{hasLiterals}
+use Rattle.rules.specs.Lines.{hasLiterals}
 use Rattle.certificate.specs.Ready.{linesAt}
 use Rattle.certificate.proofs.parts.has_empty.Statement.{statement}
 use Rattle.certificate.proofs.parts.has_empty.Tie as tie

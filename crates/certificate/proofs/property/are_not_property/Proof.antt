@@ -9,7 +9,7 @@ use borrow.Author.Tests.{eq-eqb, ne-eqb}
 use Rattle.answers.specs.Checks.{every}
 use Rattle.answers.proofs.Every.{every-none, every-more, every-not}
 use Rattle.constraints.specs.Layout.{literalAt}
-use Rattle.certificate.specs.Lines.{notPropertyAt}
+use Rattle.rules.specs.Lines.{notPropertyAt}
 use Rattle.certificate.proofs.property.are_not_property.Statement.{statement}
 use Rattle.certificate.proofs.property.are_not_property.Tie as tie
 

@@ -1,6 +1,6 @@
 -- `certificate::base_property_ok` meets its contract: the tests in a row, of the fields that were read.
 -- Assumes nothing.
-use Rattle.certificate.specs.Lines.{basePropertyOk}
+use Rattle.rules.specs.Lines.{basePropertyOk}
 use borrow.Author.Needs.{needs}
 use Rattle.certificate.proofs.property.base_property_ok.Statement.{statement}
 use Rattle.certificate.proofs.property.base_property_ok.Tie as tie

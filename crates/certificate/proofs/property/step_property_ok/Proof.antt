@@ -5,7 +5,7 @@ use borrow.Author.Tests.{eq-eqb, ne-eqb}
 use denote.Ref.{now}
 use Rattle.constraints.specs.declared.layout.LineHead.{LineHead}
 use Rattle.constraints.specs.Layout.{lineHeadAt}
-use Rattle.certificate.specs.Lines.{stepPropertyOk}
+use Rattle.rules.specs.Lines.{stepPropertyOk}
 use borrow.Author.Needs.{needs}
 use Rattle.certificate.proofs.property.step_property_ok.Statement.{statement}
 use Rattle.certificate.proofs.property.step_property_ok.Tie as tie

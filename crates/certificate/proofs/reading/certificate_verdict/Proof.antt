@@ -7,12 +7,12 @@ use denote.Ref.{now}
 use lib.ListN.{length}
 use borrow.Author.Tests.{not-true, not-false}
 use Rattle.node.specs.Rules.{lengthOk}
+use Rattle.node.proofs.FileRules.{long-enough}
 use Rattle.constraints.specs.declared.layout.Trailer.{Trailer}
 use Rattle.constraints.specs.Layout.{trailerOf}
 use Rattle.constraints.specs.Rules.{fixedOk, countsOk, distanceOk}
-use Rattle.certificate.specs.Verdict.{certificateVerdict}
-use Rattle.certificate.proofs.FileFacts.{long-enough}
-use Rattle.certificate.proofs.Openings.{file-passed}
+use Rattle.rules.specs.Verdict.{certificateVerdict}
+use Rattle.rules.proofs.FileFacts.{file-passed}
 use borrow.Author.Needs.{needs}
 use Rattle.certificate.proofs.reading.certificate_verdict.Statement.{statement}
 use Rattle.certificate.proofs.reading.certificate_verdict.Tie as tie

@@ -1,11 +1,11 @@
 -- `certificate::constraints_verdict` meets its contract: the lowest constraint at fault, or the verdict on the lines.
 -- Assumes nothing.
-use mathlib.Core.Path.{_≡_, sym, _∙_, ap}
+use mathlib.Core.Path.{_≡_, sym, _∙_}
 use denote.Ref.{now}
 use Rattle.answers.specs.declared.Found.the-variants.{Nothing}
 use Rattle.answers.specs.Checks.{lowest}
 use Rattle.constraints.specs.Layout.{trailerOf}
-use Rattle.certificate.specs.Verdict.{constraintPasses, constraintsVerdict}
+use Rattle.rules.specs.Verdict.{constraintPasses, constraintsVerdict}
 use Rattle.certificate.proofs.Openings.{few-streams, start-room, constraints-room, constraints-searched, checking}
 use borrow.Author.Needs.{needs}
 use Rattle.certificate.proofs.reading.constraints_verdict.Statement.{statement}

@@ -6,7 +6,7 @@ use denote.Ref.{now}
 use Rattle.answers.specs.Answer.{accepted, refused, numberOf, nodeAnswer}
 use Rattle.node.specs.Verdict.{verdictOf as nodeVerdict}
 use Rattle.node.proofs.FileRules.{sizes}
-use Rattle.certificate.specs.Verdict.{verdictOf}
+use Rattle.rules.specs.Verdict.{verdictOf}
 use Rattle.certificate.proofs.Openings.{node-passed}
 use borrow.Author.Needs.{needs}
 use Rattle.certificate.proofs.reading.verdict.Statement.{statement}

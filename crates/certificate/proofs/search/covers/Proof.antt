@@ -12,7 +12,7 @@ use lib.Dec.{eqb}
 use Rattle.answers.specs.Checks.{every}
 use Rattle.answers.proofs.Every.{every-none, every-more, every-not}
 use Rattle.constraints.specs.Layout.{literalAt}
-use Rattle.certificate.specs.Joins.{coveredBy}
+use Rattle.rules.specs.Joins.{coveredBy}
 use Rattle.certificate.proofs.search.covers.Statement.{statement}
 use Rattle.certificate.proofs.search.covers.Tie as tie
 

@@ -1,6 +1,6 @@
 -- `certificate::are_numbers` meets its contract: the tests in a row.
 -- Assumes nothing.
-use Rattle.certificate.specs.Lines.{numbersOk}
+use Rattle.rules.specs.Lines.{numbersOk}
 use Rattle.certificate.proofs.shape.are_numbers.Statement.{statement}
 use Rattle.certificate.proofs.shape.are_numbers.Tie as tie
 

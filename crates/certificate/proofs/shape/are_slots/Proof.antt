@@ -10,7 +10,7 @@ use Rattle.answers.specs.Checks.{every}
 use Rattle.answers.proofs.Every.{every-none, every-more, every-not}
 use Rattle.constraints.specs.Layout.{literalAt, multiplierAt}
 use Rattle.constraints.specs.Rules.{sortsOf}
-use Rattle.certificate.specs.Lines.{slotOk}
+use Rattle.rules.specs.Lines.{slotOk}
 use Rattle.certificate.proofs.shape.are_slots.Statement.{statement}
 use Rattle.certificate.proofs.shape.are_slots.Tie as tie
 

@@ -1,7 +1,7 @@
 -- `certificate::is_slot` meets its contract: past the count both are zero, else the tests in a row.
 -- Assumes nothing.
 use borrow.Author.Tests.{le-leb, lt-leb}
-use Rattle.certificate.specs.Lines.{slotOk}
+use Rattle.rules.specs.Lines.{slotOk}
 use borrow.Author.Needs.{needs}
 use Rattle.certificate.proofs.shape.is_slot.Statement.{statement}
 use Rattle.certificate.proofs.shape.is_slot.Tie as tie

@@ -1,7 +1,7 @@
 -- `certificate::names_atom` meets its contract: the atom of a constraint, or of a bool stream.
 -- Assumes nothing.
 use borrow.Author.Tests.{le-leb, lt-leb}
-use Rattle.clauses.specs.Literals.{namesAtom}
+use Rattle.rules.specs.Literals.{namesAtom}
 use borrow.Author.Needs.{needs}
 use Rattle.certificate.proofs.shape.names_atom.Statement.{statement}
 use Rattle.certificate.proofs.shape.names_atom.Tie as tie

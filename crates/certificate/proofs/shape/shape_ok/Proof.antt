@@ -1,6 +1,6 @@
 -- `certificate::shape_ok` meets its contract: the tests in a row, of the fields that were read.
 -- Assumes nothing.
-use Rattle.certificate.specs.Lines.{shapeOk}
+use Rattle.rules.specs.Lines.{shapeOk}
 use borrow.Author.Needs.{needs}
 use Rattle.certificate.proofs.shape.shape_ok.Statement.{statement}
 use Rattle.certificate.proofs.shape.shape_ok.Tie as tie

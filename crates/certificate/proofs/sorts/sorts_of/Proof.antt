@@ -6,7 +6,7 @@ use native.Mathlib.Omega.{arith}
 use borrow.Author.Needs.{needs}
 use denote.Ref.{now}
 use lib.ListN.{length, getD, length-set}
-use Rattle.certificate.specs.Sorts.{sortOf, sortsBelow}
+use Rattle.rules.specs.Sorts.{sortOf, sortsBelow}
 use Rattle.certificate.proofs.SortList.{sorts-start, sorts-turn}
 use Rattle.certificate.proofs.sorts.sorts_of.Statement.{statement}
 use Rattle.certificate.proofs.sorts.sorts_of.Tie as tie

@@ -13,8 +13,8 @@ use Rattle.answers.proofs.Every.{every-none, every-more, every-not}
 use Rattle.constraints.specs.declared.layout.Term.{Term}
 use Rattle.constraints.specs.Layout.{termAt, constraintAt}
 use Rattle.constraints.specs.Linear.{monomial, written}
-use Rattle.clauses.specs.declared.pattern.Linear.{Linear}
-use Rattle.clauses.specs.Clauses.{boundedOf}
+use Rattle.rules.specs.declared.pattern.Linear.{Linear}
+use Rattle.rules.specs.Clauses.{boundedOf}
 use Rattle.clauses.specs.Content.{agree}
 use Rattle.clauses.proofs.Coefficients.{agree-every}
 use Rattle.clauses.proofs.content.do_terms_agree.Statement.{statement}

@@ -8,7 +8,7 @@ use borrow.Author.Needs.{needs}
 use Rattle.constraints.specs.declared.layout.ConstraintHead.{ConstraintHead}
 use Rattle.constraints.specs.Layout.{Constraint, constraintAt}
 use Rattle.constraints.specs.Linear.{written, sameZ, agreeAt, sameContent}
-use Rattle.clauses.specs.Clauses.{boundedOf}
+use Rattle.rules.specs.Clauses.{boundedOf}
 use Rattle.clauses.proofs.content.same_content.Statement.{statement}
 use Rattle.clauses.proofs.content.same_content.Tie as tie
 

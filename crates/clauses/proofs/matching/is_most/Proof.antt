@@ -7,8 +7,8 @@ use denote.Ref.{now}
 use borrow.Author.Needs.{needs}
 use Rattle.constraints.specs.Layout.{Constraint, constraintAt}
 use Rattle.constraints.specs.Linear.{sameContent, boundedOf as ofConstraint}
-use Rattle.clauses.specs.Clauses.{boundedOf}
-use Rattle.clauses.specs.Literals.{atomOf, constraintNumber}
+use Rattle.rules.specs.Clauses.{boundedOf}
+use Rattle.rules.specs.Literals.{atomOf, constraintNumber}
 use Rattle.clauses.proofs.Literals.{not-negated, not-bool, not-past, says-content}
 use Rattle.clauses.proofs.matching.is_most.Statement.{statement}
 use Rattle.clauses.proofs.matching.is_most.Tie as tie

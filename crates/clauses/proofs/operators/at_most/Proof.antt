@@ -2,7 +2,7 @@
 -- Assumes nothing.
 use mathlib.Core.Path.{_∙_, ap}
 use borrow.Author.Needs.{needs}
-use Rattle.clauses.specs.Clauses.{clause2}
+use Rattle.rules.specs.Clauses.{clause2}
 use Rattle.clauses.proofs.Numbering.{same-number, lists2}
 use Rattle.clauses.proofs.operators.at_most.Statement.{statement}
 use Rattle.clauses.proofs.operators.at_most.Tie as tie

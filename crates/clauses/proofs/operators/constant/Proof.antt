@@ -6,7 +6,7 @@ use lib.IntN.{pos}
 use mir.Syntax.{w32}
 use mir.ValLaws.{toZ-ofZ}
 use borrow.Author.Needs.{needs}
-use Rattle.clauses.specs.Clauses.{equalTo}
+use Rattle.rules.specs.Clauses.{equalTo}
 use Rattle.clauses.proofs.Cases.{constant-case}
 use Rattle.clauses.proofs.Numbering.{same-number, lists1, same-constant}
 use Rattle.clauses.proofs.operators.constant.Statement.{statement}

@@ -2,7 +2,7 @@
 -- Assumes nothing.
 use mathlib.Core.Path.{_∙_, ap, ap₂}
 use borrow.Author.Needs.{needs}
-use Rattle.clauses.specs.Clauses.{clause2, clause3}
+use Rattle.rules.specs.Clauses.{clause2, clause3}
 use Rattle.clauses.proofs.Numbering.{same-number, lists3}
 use Rattle.clauses.proofs.operators.equal.Statement.{statement}
 use Rattle.clauses.proofs.operators.equal.Tie as tie

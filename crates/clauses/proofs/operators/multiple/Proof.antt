@@ -5,7 +5,7 @@ use lib.IntN.{pos}
 use mir.Syntax.{w32}
 use mir.ValLaws.{toZ-ofZ}
 use borrow.Author.Needs.{needs}
-use Rattle.clauses.specs.Clauses.{equalTo}
+use Rattle.rules.specs.Clauses.{equalTo}
 use Rattle.clauses.proofs.Numbering.{same-number, same-constant}
 use Rattle.clauses.proofs.operators.multiple.Statement.{statement}
 use Rattle.clauses.proofs.operators.multiple.Tie as tie

@@ -10,7 +10,7 @@ use borrow.Author.Needs.{needs}
 use Rattle.node.specs.declared.equation.Kind.the-variants.{Bool as BoolKind, Int as IntKind}
 use Rattle.node.specs.declared.equation.Equation.the-variants.{Constant, Not, And, Or, Same, Multiple, AtMost, Equal, If}
 use Rattle.constraints.specs.Linear.{variable}
-use Rattle.clauses.specs.Clauses.{equalTo}
+use Rattle.rules.specs.Clauses.{equalTo}
 use Rattle.clauses.specs.Operators.{over}
 use Rattle.clauses.proofs.Cases.{constant-anywhere, arrow-case, followed-case}
 use Rattle.clauses.proofs.Numbering.{same-number, same2, same3, same4, same-constant}

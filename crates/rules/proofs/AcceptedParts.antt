@@ -1,0 +1,88 @@
+-- Both parts of a certificate that keeps the rules: no window in which the node's equations hold satisfies the part's property
+-- lines.
+-- Assumes nothing.
+use mathlib.Core.Path.{_≡_, sym, _∙_, ap, subst}
+use mathlib.Core.Bool.{true}
+use mathlib.Core.List.{List}
+use Prim.Native.Nat.{ℕ, _<_, _≤_}
+use native.Mathlib.Omega.{arith}
+use Rattle.node.specs.Layout.{propertyOf}
+use Rattle.streams.specs.Nodes.{nodeOf}
+use Rattle.constraints.specs.Layout.{Line, trailerOf, constraintOf, lineOf}
+use Rattle.rules.specs.Literals.{atomOf, constraintNumber}
+use Rattle.rules.specs.Joins.{joinOk}
+use Rattle.rules.specs.Lines.{Window, hasEmpty}
+use Rattle.rules.specs.Outcome.{CertificateRules}
+use Rattle.rules.specs.Verdict.{sortsOfNode, linesOf, windowOf, baseOf, stepOf, shapePasses}
+use Rattle.rules.specs.Satisfaction.{Valuation, Satisfies}
+use Rattle.rules.specs.Windows.{Solves}
+use Rattle.rules.proofs.Contradiction.{accepted}
+use Rattle.rules.proofs.ConstraintLimits.{names-constraint}
+use Rattle.rules.proofs.LineParts.{part-base, part-step, from-is}
+use Rattle.rules.proofs.ShapeFacts.{ShapeFacts, shape-facts}
+use Rattle.rules.proofs.ArithmeticLines.{arithmetic-satisfied}
+use Rattle.rules.proofs.CertificateFacts.{constraint-limited}
+use Rattle.rules.proofs.EquationLines.{equation-satisfied}
+use Rattle.rules.proofs.Parts.{Premises, refuted}
+
+-- a part: its window is that of each of its lines, and one of them is empty
+pub record IsPart (node cert : List ℕ) (part : Window) : Type 0 where
+  pub lines : part .until ≤ linesOf cert
+  pub is : (i : ℕ) → part .from ≤ i → i < part .until → windowOf node cert i ≡ part
+  pub ends : hasEmpty (lineOf cert) part ≡ true
+
+module _ (node cert : List ℕ) (rules : CertificateRules node cert) where
+  pub base-part : IsPart node cert (baseOf node cert)
+  base-part =
+      record { lines = omega arith; is = λ i l m. part-base cert (propertyOf node) i m; ends = rules .base-ends }
+
+  pub step-part : IsPart node cert (stepOf node cert)
+  step-part =
+      record { lines = omega arith; is = λ i l m. part-step cert (propertyOf node) i l; ends = rules .step-ends }
+
+  shape : (i : ℕ) → i < linesOf cert → ShapeFacts (sortsOfNode node) (trailerOf cert .depth) (trailerOf cert .constraints) (lineOf cert i)
+  unfolding shapePasses
+  shape i l = shape-facts (sortsOfNode node) (trailerOf cert .depth) (trailerOf cert .constraints) (lineOf cert i) (rules .shapes i l)
+
+  arithmetic-line : (w : Valuation) (i : ℕ) → i < linesOf cert → lineOf cert i .head .kind ≡ 4 → Satisfies (constraintOf cert) w (lineOf cert i)
+  arithmetic-line w i l kind =
+      let line = lineOf cert i in
+      let passes = rules .arithmetic i l kind in
+      arithmetic-satisfied (constraintOf cert) w line passes
+      (λ j m.
+      let atom = atomOf (line .literal j) in
+      let on = accepted (constraintOf cert) line passes .on-constraints j m in
+      let below = names-constraint (sortsOfNode node) (trailerOf cert .depth) (trailerOf cert .constraints) atom (shape i l .atoms j m) on in
+      constraint-limited node cert rules (constraintNumber atom) below .variables)
+
+  module _ (part : Window) (p : IsPart node cert part) (w : Valuation) where
+    premises :
+        Solves (nodeOf node) (part .isBase) (part .offsets) w
+        → ((line : Line) → part .property line ≡ true → Satisfies (constraintOf cert) w line)
+        → Premises (constraintOf cert) (lineOf cert) part w
+    premises solves property =
+        let listed : (i : ℕ) → i < part .until → i < linesOf cert = λ i m. omega (arith, p .lines) in
+        record {
+          least = λ i l m. shape i (listed i m) .least;
+          most = λ i l m. shape i (listed i m) .most;
+          equations =
+              λ i l m kind.
+              equation-satisfied node cert rules i (rules .equations i (listed i m) kind) w
+              (subst (λ (v : Window). Solves (nodeOf node) (v .isBase) (v .offsets) w) (sym (p .is i l m)) solves);
+          properties =
+              λ i l m kind.
+              property (lineOf cert i)
+              (subst (λ (v : Window). v .property (lineOf cert i) ≡ true) (p .is i l m) (rules .properties i (listed i m) kind));
+          joins =
+              λ i l m kind.
+              subst (λ (n : ℕ). joinOk (lineOf cert) n i ≡ true)
+              (sym (from-is cert (propertyOf node) i) ∙ ap (λ (v : Window). v .from) (p .is i l m))
+              (rules .joins i (listed i m) kind);
+          arithmetic = λ i l m kind. arithmetic-line w i (listed i m) kind;
+        }
+
+    pub part-refuted :
+        Solves (nodeOf node) (part .isBase) (part .offsets) w
+        → ((line : Line) → part .property line ≡ true → Satisfies (constraintOf cert) w line)
+        → ⊥
+    part-refuted solves property = refuted (constraintOf cert) (lineOf cert) part w (premises solves property) (p .ends)

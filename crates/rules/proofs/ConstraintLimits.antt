@@ -1,0 +1,86 @@
+-- Rule 15 keeps a constraint within its limits, and rule 16 has a literal on a constraint name one of the file's.
+-- Assumes nothing.
+use mathlib.Core.Path.{_≡_, refl}
+use mathlib.Core.List.{List}
+use mathlib.Core.Bool.{Bool, true, false, not, _&&_, _||_}
+use Prim.Native.Nat.{ℕ, _-_, _≤_, _<_}
+use native.Mathlib.Omega.{arith}
+use borrow.Author.Tests.{leb-true, leb-false, ltb-true, lt-leb, eqb-true}
+use lib.Dec.{leb, eqb}
+use lib.IntN.{ℤ, pos, negℤ, natAbs}
+use lib.ListN.{length, getD, List·getD-eq-default}
+use lib.Signed.{leZ}
+use Rattle.integers.proofs.Abs.{abs-≤}
+use Rattle.integers.proofs.Order.{leZ-true}
+use Rattle.answers.specs.Checks.{every}
+use Rattle.answers.proofs.Every.{every-all}
+use Rattle.answers.proofs.Tests.{both-true}
+use Rattle.constraints.specs.declared.layout.Term.{Term}
+use Rattle.constraints.specs.Layout.{Constraint}
+use Rattle.constraints.specs.Linear.{variable}
+use Rattle.constraints.specs.Rules.{Sorts, sortsOf, between, boundLimit, coefficientLimit, usedOk, rises, termOk, constraintOk}
+use Rattle.rules.specs.Literals.{isConstraint, constraintNumber, namesAtom}
+use Rattle.rules.specs.Limited.{Limited}
+
+-- a number between two limits of one magnitude
+between-abs : (n : ℕ) (z : ℤ) → between (negℤ (pos n)) z (pos n) ≡ true → natAbs z ≤ n
+between-abs n z e =
+    let both = both-true (leZ (negℤ (pos n)) z) (leZ z (pos n)) e in
+    abs-≤ n z .1 (leZ-true (negℤ (pos n)) z .0 (both .0), leZ-true z (pos n) .0 (both .1))
+
+-- int streams are among the first 64
+abbrev pub Few : Sorts → Type 0
+Few sorts = (x : ℕ) → sorts x ≡ 1 → x < 64
+
+pub few-sorts : (l : List ℕ) → length l ≤ 64 → Few (sortsOf l)
+few-sorts l most x e = go (leb (length l) x) refl
+  where
+    go : (t : Bool) → leb (length l) x ≡ t → x < 64
+    go true t =
+        let past : getD l x 2 ≡ 2 = List·getD-eq-default l 2 (leb-true (length l) x t) in
+        omega (arith, past, e)
+    go false t = omega (arith, leb-false (length l) x t)
+
+-- a used term
+module _ (sorts : Sorts) (few : Few sorts) (k : ℕ) (deep : k ≤ 8) (t : Term) (e : usedOk sorts k t ≡ true) where
+  used : (variable (t .offset) (t .stream) < 576) × (natAbs (t .coefficient) ≤ 1000000000)
+  unfolding usedOk
+  used =
+      let sort = eqb (sorts (t .stream)) 1 in
+      let low = leb (t .offset) k in
+      let limit = between (negℤ coefficientLimit) (t .coefficient) coefficientLimit in
+      let all = both-true (sort && low && eqb (t .zero) 0 && limit) (not (between (pos 0) (t .coefficient) (pos 0))) e in
+      let first = both-true (sort && low && eqb (t .zero) 0) limit (all .0) in
+      let second = both-true (sort && low) (eqb (t .zero) 0) (first .0) in
+      let third = both-true sort low (second .0) in
+      let stream = few (t .stream) (eqb-true (sorts (t .stream)) 1 (third .0)) in
+      let offset = leb-true (t .offset) k (third .1) in
+      (omega (arith, stream, offset), between-abs 1000000000 (t .coefficient) (first .1))
+
+is-used : (sorts : Sorts) (k count : ℕ) (term : ℕ → Term) (j : ℕ) → j < count → termOk sorts k count term j ≡ true → usedOk sorts k (term j) ≡ true
+unfolding termOk
+is-used sorts k count term j l e =
+    both-true (usedOk sorts k (term j)) (eqb j 0 || rises (term (j - 1)) (term j)) (rw (lt-leb count j l) at e) .0
+
+-- rule 15 keeps the limits
+pub limited : (sorts : Sorts) → Few sorts → (k : ℕ) → k ≤ 8 → (c : Constraint) → constraintOk sorts k c ≡ true → Limited c
+unfolding constraintOk
+limited sorts few k deep c e =
+    let count = c .head .count in
+    let bound = between (negℤ boundLimit) (c .head .bound) boundLimit in
+    let all = both-true (leb count 8 && c .head .zeros && bound) (every (termOk sorts k count (c .term)) 8) e in
+    let first = both-true (leb count 8 && c .head .zeros) bound (all .0) in
+    let small : count ≤ 8 = leb-true count 8 (both-true (leb count 8) (c .head .zeros) (first .0) .0) in
+    let each : (j : ℕ) → j < count → usedOk sorts k (c .term j) ≡ true =
+    λ j l. is-used sorts k count (c .term) j l (every-all (termOk sorts k count (c .term)) 8 (all .1) j (omega arith)) in
+    record {
+      few = small;
+      bound = between-abs 100000000000 (c .head .bound) (first .1);
+      variables = λ j l. used sorts few k deep (c .term j) (each j l) .0;
+      coefficients = λ j l. used sorts few k deep (c .term j) (each j l) .1;
+    }
+
+-- rule 16: a literal that names an atom, on a constraint, names one of the m
+pub names-constraint : (sorts : Sorts) (k m atom : ℕ) → namesAtom sorts k m atom ≡ true → isConstraint atom ≡ true → constraintNumber atom < m
+unfolding namesAtom
+names-constraint sorts k m atom e on = ltb-true (constraintNumber atom) m (rw on at e)

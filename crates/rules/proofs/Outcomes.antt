@@ -1,0 +1,127 @@
+-- Every answer to a node file and a certificate says what it should: accepted exactly where the published rules hold, refused with
+-- the first that fails at its lowest place.
+-- Assumes nothing.
+use mathlib.Core.Path.{_≡_, refl, sym, _∙_, subst}
+use mathlib.Core.Logic.{_↔_}
+use mathlib.Core.Bool.{false≢true}
+use mathlib.Core.List.{List}
+use Prim.Native.Nat.{ℕ, _<_}
+use Rattle.answers.specs.declared.Found.{Found}
+use Rattle.answers.specs.declared.Found.the-variants.{At, Nothing}
+use Rattle.answers.specs.declared.Place.{Place}
+use Rattle.answers.specs.declared.Place.the-variants.{File, Constraint as AtConstraint, Line as AtLine, Base, Step}
+use Rattle.answers.specs.Answer.{Answer, accepted, refused, NodeValues, CertificateValues}
+use Rattle.answers.proofs.InARow.{by-check, by-check-all}
+use Rattle.answers.proofs.Lowest.{none, all, first}
+use Rattle.answers.proofs.Tests.{both-true}
+use Rattle.node.specs.Outcome.{NodeRules}
+use Rattle.node.specs.Verdict.{verdictOf as nodeVerdict}
+use Rattle.node.proofs.Outcomes.{accepted-keeps as node-keeps, refused-first as node-first, keeps-accepted as node-accepted}
+use Rattle.rules.specs.Outcome.{FileRules, LinesKeep, CertificateRules, BeforeLines, FirstFailure, in-node, at-11, at-12, at-13, at-14, at-15, at-line, at-21-base, at-21-step, Says}
+use Rattle.rules.specs.Verdict.{linesOf, valuesOf, shapePasses, kindPasses, linePasses, lineNumber, checkLines, linesVerdict, constraintsVerdict, certificateVerdict, afterNode, verdictOf}
+use Rattle.rules.proofs.KindRules.{KindRules, kind-rules, kind-passes}
+
+-- the lowest line at fault, or the rest
+by-lines : (P : Answer CertificateValues → Type 0) (found : Found) (number : ℕ → ℕ) (rest : Answer CertificateValues) → ((i : ℕ) → found ≡ At i → P (refused (number i) (AtLine i))) → (found ≡ Nothing → P rest) → P (checkLines found number rest)
+by-lines P (At i) number rest f g = f i refl
+by-lines P Nothing number rest f g = g refl
+
+module _ (node cert : List ℕ) where
+  -- every line keeps its rules: 16, and that of its kind
+  shapes-keep : LinesKeep cert (linePasses node cert) → LinesKeep cert (shapePasses node cert)
+  shapes-keep h i l = both-true (shapePasses node cert i) (kindPasses node cert i) (h i l) .0
+
+  kinds-keep : LinesKeep cert (linePasses node cert) → LinesKeep cert (kindPasses node cert)
+  kinds-keep h i l = both-true (shapePasses node cert i) (kindPasses node cert i) (h i l) .1
+
+  kept : LinesKeep cert (linePasses node cert) → (i : ℕ) → i < linesOf cert → KindRules node cert i
+  kept h i l = kind-rules node cert i (shapes-keep h i l) (kinds-keep h i l)
+
+  of-lines : BeforeLines node cert → Says node cert (linesVerdict node cert)
+  unfolding linesVerdict
+  of-lines b =
+      by-lines (Says node cert) _ (lineNumber node cert) _ (λ i e. at-line b (first _ _ _ e)) λ e.
+      let lines = all _ _ e in
+      by-check (Says node cert) _ 21 Base _ (λ e21. at-21-base b lines e21) λ e21.
+      by-check (Says node cert) _ 21 Step _ (λ e22. at-21-step b lines e21 e22) λ e22. (
+        record {
+          node-rules = b .node-rules;
+          file = b .file;
+          constraints = b .constraints;
+          shapes = shapes-keep lines;
+          equations = λ i l k. kept lines i l .equation k;
+          properties = λ i l k. kept lines i l .property k;
+          joins = λ i l k. kept lines i l .join k;
+          arithmetic = λ i l k. kept lines i l .arithmetic k;
+          base-ends = e21;
+          step-ends = e22;
+        },
+        refl,
+      )
+
+  of-constraints : NodeRules node → FileRules cert → Says node cert (constraintsVerdict node cert)
+  unfolding constraintsVerdict
+  of-constraints n f =
+      by-check-all (Says node cert) _ 15 AtConstraint _ (λ i e. at-15 n f (first _ _ _ e)) λ e.
+      of-lines (record { node-rules = n; file = f; constraints = all _ _ e })
+
+  of-certificate : NodeRules node → Says node cert (certificateVerdict node cert)
+  unfolding certificateVerdict
+  of-certificate n =
+      by-check (Says node cert) _ 11 File _ (at-11 n) λ e1.
+      by-check (Says node cert) _ 12 File _ (at-12 n e1) λ e2.
+      by-check (Says node cert) _ 13 File _ (at-13 n e1 e2) λ e3.
+      by-check (Says node cert) _ 14 File _ (at-14 n e1 e2 e3) λ e4.
+      of-constraints n (record { size = e1; fixed = e2; counts = e3; distance = e4 })
+
+  after-node : (a : Answer NodeValues) → nodeVerdict node ≡ a → Says node cert (afterNode a (certificateVerdict node cert))
+  after-node (accepted v) e = of-certificate (node-keeps node e)
+  after-node (refused number place) e = in-node (node-first node e)
+
+  pub says : Says node cert (verdictOf node cert)
+  unfolding verdictOf
+  says = after-node (nodeVerdict node) refl
+
+  pub accepted-keeps : {v : CertificateValues} → verdictOf node cert ≡ accepted v → CertificateRules node cert
+  accepted-keeps e = subst (Says node cert) e says .0
+
+  -- "with its depth and both line counts, as the trailer has them"
+  pub accepted-values : {v : CertificateValues} → verdictOf node cert ≡ accepted v → v ≡ valuesOf cert
+  accepted-values e = subst (Says node cert) e says .1
+
+  pub refused-first : {number : ℕ} {place : Place} → verdictOf node cert ≡ refused number place → FirstFailure node cert number place
+  refused-first e = subst (Says node cert) e says
+
+  lines-keep : CertificateRules node cert → LinesKeep cert (linePasses node cert)
+  lines-keep r i l =
+      let rules : KindRules node cert i =
+      record {
+        equation = r .equations i l;
+        property = r .properties i l;
+        join = r .joins i l;
+        arithmetic = r .arithmetic i l;
+      } in
+      rw (r .shapes i l) (kind-passes node cert i (r .shapes i l) rules)
+
+  abbrev Accepts : Answer CertificateValues → Type 0
+  Accepts a = a ≡ accepted (valuesOf cert)
+
+  pub keeps-accepted : CertificateRules node cert → verdictOf node cert ≡ accepted (valuesOf cert)
+  unfolding verdictOf certificateVerdict constraintsVerdict linesVerdict
+  keeps-accepted r =
+      let f = r .file in
+      rw (
+        node-accepted node (r .node-rules),
+        f .size,
+        f .fixed,
+        f .counts,
+        f .distance,
+        none _ _ (r .constraints),
+        none _ _ (lines-keep r),
+      )
+      (by-check Accepts _ 21 Base _ (λ e. absurd (false≢true (sym e ∙ r .base-ends))) λ _.
+      by-check Accepts _ 21 Step _ (λ e. absurd (false≢true (sym e ∙ r .step-ends))) λ _. refl)
+
+  -- the published rules, and only they
+  pub accepted-exactly : (verdictOf node cert ≡ accepted (valuesOf cert)) ↔ CertificateRules node cert
+  accepted-exactly = (accepted-keeps, keeps-accepted)

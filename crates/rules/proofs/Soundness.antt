@@ -1,0 +1,116 @@
+-- A certificate that keeps the rules proves its property: by the base it holds at instants 0 to k − 1, by the step at each
+-- instant after k instants at which it holds, and so at every instant.
+-- Assumes nothing.
+use mathlib.Core.Path.{_≡_, refl, sym, _∙_, ap, subst}
+use mathlib.Core.Bool.{Bool, true, false, false≢true}
+use mathlib.Core.List.{List}
+use Prim.Native.Nat.{ℕ, zero, suc, _+_, _-_, _<_, _≤_}
+use native.Mathlib.Nat.{not-suc-le-zero, le-refl}
+use native.Mathlib.Omega.{arith}
+use borrow.Author.Tests.{leb-true, leb-false}
+use lib.Dec.{leb}
+use lib.IntN.{ℤ, pos}
+use Rattle.node.specs.Layout.{streamsOf, propertyOf}
+use Rattle.node.proofs.FileRules.{sizes}
+use Rattle.node.proofs.WellFormedness.{well-formed}
+use Rattle.streams.specs.Nodes.{nodeOf}
+use Rattle.streams.specs.Solutions.{Streams, Solution}
+use Rattle.streams.specs.Typing.{Inputs}
+use Rattle.streams.specs.Values.{truth}
+use Rattle.streams.proofs.Numbers.{equals-true}
+use Rattle.constraints.specs.Layout.{trailerOf, constraintOf}
+use Rattle.rules.specs.Outcome.{CertificateRules}
+use Rattle.rules.specs.Verdict.{baseOf, stepOf}
+use Rattle.rules.specs.Satisfaction.{Valuation}
+use Rattle.rules.specs.Theorems.{PropertyHolds}
+use Rattle.rules.specs.Windows.{windowFrom, Solves}
+use Rattle.rules.proofs.AcceptedParts.{base-part, step-part, part-refuted}
+use Rattle.rules.proofs.CertificateFacts.{certificate-sizes}
+use Rattle.rules.proofs.PropertyLines.{holdsAt, base-property-satisfied, step-property-satisfied}
+use Rattle.rules.proofs.SolutionWindows.{window-at, solves-window}
+
+-- what is not false is true
+not-false-true : (b : Bool) → (b ≡ false → ⊥) → b ≡ true
+not-false-true true h = refl
+not-false-true false h = absurd (h refl)
+
+truth-one : (z : ℤ) → truth z ≡ true → z ≡ pos 1
+unfolding truth
+truth-one z e = equals-true z (pos 1) .0 e
+
+-- induction over k instants
+module _ (Holds : ℕ → Type 0) (k : ℕ) (base : (j : ℕ) → j < k → Holds j) (step : (t : ℕ) → ((j : ℕ) → j < k → Holds (t + j)) → Holds (t + k)) where
+  always-to : (n t : ℕ) → t < n → Holds t
+  always-to zero t l = absurd (not-suc-le-zero l)
+  always-to (suc n) t l = go (leb k t) refl (always-to n)
+    where
+      go : (b : Bool) → leb k t ≡ b → ((u : ℕ) → u < n → Holds u) → Holds t
+      go true e earlier =
+          let past = leb-true k t e in
+          let back : t - k + k ≡ t = omega (arith, past) in
+          subst Holds back (step (t - k) (λ j m. earlier (t - k + j) (omega (arith, past))))
+      go false e earlier = base t (leb-false k t e)
+
+  pub always : (t : ℕ) → Holds t
+  always t = always-to (suc t) t (le-refl (suc t))
+
+module _ (node cert : List ℕ) (rules : CertificateRules node cert) where
+  abbrev k : ℕ
+  k = trailerOf cert .depth
+
+  abbrev prop : ℕ
+  prop = propertyOf node
+
+  deep : k ≤ 8
+  deep = certificate-sizes cert (rules .file) .deep
+
+  few : streamsOf node ≤ 64
+  few = sizes node (rules .node-rules .file) .few
+
+  low : prop < 64
+  low = omega (arith, few, sizes node (rules .node-rules .file) .property)
+
+  -- in the base's windows the property holds at each offset below k ..
+  base-holds : (w : Valuation) → Solves (nodeOf node) true k w → (q : ℕ) → q < k → holdsAt w prop q ≡ true
+  base-holds w solves q l =
+      not-false-true (holdsAt w prop q)
+      (λ fails.
+      part-refuted node cert rules (baseOf node cert) (base-part node cert rules) w solves
+      (λ line ok. base-property-satisfied (constraintOf cert) w k prop deep low line ok q l fails))
+
+  -- .. and in the step's at offset k, where it holds at those below
+  step-holds : (w : Valuation) → Solves (nodeOf node) false (k + 1) w → ((q : ℕ) → q < k → holdsAt w prop q ≡ true) → holdsAt w prop k ≡ true
+  step-holds w solves before =
+      not-false-true (holdsAt w prop k)
+      (λ fails.
+      part-refuted node cert rules (stepOf node cert) (step-part node cert rules) w solves
+      (λ line ok. step-property-satisfied (constraintOf cert) w k prop deep low line ok before fails))
+
+  module _ (inputs : Inputs) (values : Streams) (solution : Solution (nodeOf node) inputs values) where
+    -- the property holds at an instant
+    abbrev Holds : ℕ → Type 0
+    Holds t = truth (values t prop) ≡ true
+
+    window-solves : (start : ℕ) (isBase : Bool) → (isBase ≡ true → start ≡ 0) → (offsets : ℕ) → Solves (nodeOf node) isBase offsets (windowFrom values start)
+    window-solves = solves-window (nodeOf node) (well-formed node (rules .node-rules)) few inputs values solution
+
+    -- the property in a window is that at the instant
+    in-window : (start q : ℕ) → holdsAt (windowFrom values start) prop q ≡ truth (values (start + q) prop)
+    in-window start q = ap truth (window-at values start q prop low)
+
+    first-instants : (j : ℕ) → j < k → Holds j
+    first-instants j l =
+        let held = base-holds (windowFrom values 0) (window-solves 0 true (λ e. refl) k) j l in
+        let here : 0 + j ≡ j = omega arith in
+        subst Holds here (sym (in-window 0 j) ∙ held)
+
+    next-instant : (t : ℕ) → ((j : ℕ) → j < k → Holds (t + j)) → Holds (t + k)
+    next-instant t before =
+        let solves = window-solves t false (λ e. absurd (false≢true e)) (k + 1) in
+        sym (in-window t k) ∙ step-holds (windowFrom values t) solves (λ q l. in-window t q ∙ before q l)
+
+    pub property-holds : (t : ℕ) → values t prop ≡ pos 1
+    property-holds t = truth-one (values t prop) (always Holds k first-instants next-instant t)
+
+pub rules-sound : (node cert : List ℕ) → CertificateRules node cert → PropertyHolds node
+rules-sound node cert rules inputs typed values solution = property-holds node cert rules inputs values solution

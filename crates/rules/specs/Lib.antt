@@ -1,0 +1,14 @@
+pub mod Arithmetic
+pub mod Clauses
+pub mod Joins
+pub mod Limited
+pub mod Lines
+pub mod Literals
+pub mod Matching
+pub mod Note
+pub mod Outcome
+pub mod Satisfaction
+pub mod Sorts
+pub mod Theorems
+pub mod Verdict
+pub mod Windows

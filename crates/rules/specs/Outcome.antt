@@ -1,0 +1,71 @@
+-- The rules of a certificate one by one: what an accepted one keeps, and what a refusal says. Both are proved of every answer
+-- (proofs/Outcomes.antt): "the published rules, and only they". The theorem does not look into the verdict.
+use Prim.Native.Nat.{ℕ, _<_}
+use mathlib.Core.Path.{_≡_}
+use mathlib.Core.List.{List}
+use mathlib.Core.Bool.{Bool, true, false}
+use lib.ListN.{length}
+use Rattle.answers.specs.declared.Place.{Place}
+use Rattle.answers.specs.declared.Place.the-variants.{File, Constraint as AtConstraint, Line as AtLine, Base, Step}
+use Rattle.answers.specs.Answer.{Answer, accepted, refused, CertificateValues}
+use Rattle.answers.specs.Checks.{Lowest}
+use Rattle.node.specs.Outcome.{NodeRules, FirstFailure as NodeFailure}
+use Rattle.node.specs.Rules.{lengthOk}
+use Rattle.constraints.specs.Layout.{trailerOf, lineOf}
+use Rattle.constraints.specs.Rules.{fixedOk, countsOk, distanceOk}
+use Rattle.rules.specs.Lines.{hasEmpty}
+use Rattle.rules.specs.Verdict.{baseOf, stepOf, linesOf, valuesOf, constraintPasses, shapePasses, equationPasses, propertyPasses, joinPasses, arithmeticPasses, linePasses, lineNumber}
+
+-- 11 to 14
+pub record FileRules (cert : List ℕ) : Type 0 where
+  pub size : lengthOk (length cert) ≡ true
+  pub fixed : fixedOk (trailerOf cert) ≡ true
+  pub counts : countsOk (trailerOf cert) ≡ true
+  pub distance : distanceOk (trailerOf cert) (length cert) ≡ true
+
+-- 15, at each constraint
+abbrev pub ConstraintsKeep : (node cert : List ℕ) → Type 0
+ConstraintsKeep node cert = (i : ℕ) → i < trailerOf cert .constraints → constraintPasses node cert i ≡ true
+
+-- a rule of lines, at each line
+abbrev pub LinesKeep : (cert : List ℕ) → (ℕ → Bool) → Type 0
+LinesKeep cert ok = (i : ℕ) → i < linesOf cert → ok i ≡ true
+
+-- a rule of the lines of one kind, at each of them
+abbrev pub KindKeeps : (cert : List ℕ) → (kind : ℕ) → (ℕ → Bool) → Type 0
+KindKeeps cert kind ok = (i : ℕ) → i < linesOf cert → lineOf cert i .head .kind ≡ kind → ok i ≡ true
+
+pub record CertificateRules (node cert : List ℕ) : Type 0 where
+  pub node-rules : NodeRules node  -- 1 to 8
+  pub file : FileRules cert  -- 11 to 14
+  pub constraints : ConstraintsKeep node cert  -- 15
+  pub shapes : LinesKeep cert (shapePasses node cert)  -- 16
+  pub equations : KindKeeps cert 1 (equationPasses node cert)  -- 17
+  pub properties : KindKeeps cert 2 (propertyPasses node cert)  -- 18
+  pub joins : KindKeeps cert 3 (joinPasses cert)  -- 19
+  pub arithmetic : KindKeeps cert 4 (arithmeticPasses cert)  -- 20
+  pub base-ends : hasEmpty (lineOf cert) (baseOf node cert) ≡ true  -- 21, the base
+  pub step-ends : hasEmpty (lineOf cert) (stepOf node cert) ≡ true  -- 21, the step
+
+-- 1 to 8 and 11 to 15, which are checked before any line
+pub record BeforeLines (node cert : List ℕ) : Type 0 where
+  pub node-rules : NodeRules node
+  pub file : FileRules cert
+  pub constraints : ConstraintsKeep node cert
+
+-- what a refusal says: the rules before it hold, and it is met at its lowest place
+pub data FirstFailure (node cert : List ℕ) : (number : ℕ) → Place → Type 0 where
+  in-node : {number : ℕ} {place : Place} → NodeFailure node number place → FirstFailure node cert number place
+  at-11 : NodeRules node → lengthOk (length cert) ≡ false → FirstFailure node cert 11 File
+  at-12 : NodeRules node → lengthOk (length cert) ≡ true → fixedOk (trailerOf cert) ≡ false → FirstFailure node cert 12 File
+  at-13 : NodeRules node → lengthOk (length cert) ≡ true → fixedOk (trailerOf cert) ≡ true → countsOk (trailerOf cert) ≡ false → FirstFailure node cert 13 File
+  at-14 : NodeRules node → lengthOk (length cert) ≡ true → fixedOk (trailerOf cert) ≡ true → countsOk (trailerOf cert) ≡ true → distanceOk (trailerOf cert) (length cert) ≡ false → FirstFailure node cert 14 File
+  at-15 : {i : ℕ} → NodeRules node → FileRules cert → Lowest (constraintPasses node cert) (trailerOf cert .constraints) i → FirstFailure node cert 15 (AtConstraint i)
+  at-line : {i : ℕ} → BeforeLines node cert → Lowest (linePasses node cert) (linesOf cert) i → FirstFailure node cert (lineNumber node cert i) (AtLine i)
+  at-21-base : BeforeLines node cert → LinesKeep cert (linePasses node cert) → hasEmpty (lineOf cert) (baseOf node cert) ≡ false → FirstFailure node cert 21 Base
+  at-21-step : BeforeLines node cert → LinesKeep cert (linePasses node cert) → hasEmpty (lineOf cert) (baseOf node cert) ≡ true → hasEmpty (lineOf cert) (stepOf node cert) ≡ false → FirstFailure node cert 21 Step
+
+-- what each answer to a node file and a certificate says
+abbrev pub Says : (node cert : List ℕ) → Answer CertificateValues → Type 0
+Says node cert (accepted v) = CertificateRules node cert × (v ≡ valuesOf cert)
+Says node cert (refused number place) = FirstFailure node cert number place

@@ -1,0 +1,131 @@
+-- The answer to a node file and a certificate: the whole table "Where each refusal is met" but for sessions, from the top.
+use Prim.Native.Nat.{ℕ, _+_}
+use mathlib.Core.List.{List}
+use mathlib.Core.Bool.{Bool, cond, _&&_}
+use lib.Dec.{ltb}
+use lib.ListN.{length}
+use Rattle.answers.specs.declared.Found.{Found}
+use Rattle.answers.specs.declared.Found.the-variants.{At, Nothing}
+use Rattle.answers.specs.declared.Place.the-variants.{File, Constraint as AtConstraint, Line as AtLine, Base, Step}
+use Rattle.answers.specs.Answer.{Answer, accepted, refused, NodeValues, CertificateValues}
+use Rattle.answers.specs.Checks.{check, checkAll, lowest}
+use Rattle.node.specs.Equations.{kindAt, equationAt}
+use Rattle.node.specs.Layout.{streamsOf, propertyOf}
+use Rattle.node.specs.Rules.{lengthOk}
+use Rattle.node.specs.Verdict.{verdictOf as nodeVerdict}
+use Rattle.constraints.specs.Layout.{trailerOf, constraintOf, lineOf}
+use Rattle.constraints.specs.Rules.{Sorts, fixedOk, countsOk, distanceOk, constraintOk}
+use Rattle.rules.specs.Sorts.{sortsBelow}
+use Rattle.rules.specs.Arithmetic.{arithmeticOk}
+use Rattle.rules.specs.Joins.{joinOk}
+use Rattle.rules.specs.Lines.{Streams, Window, baseWindow, stepWindow, shapeOk, equationOk, kindOk, hasEmpty}
+
+-- the streams of a node: 0 a bool, 1 an int, 2 none
+abbrev pub sortsOfNode : List ℕ → Sorts
+sortsOfNode node = sortsBelow node (streamsOf node)
+
+abbrev pub streamsOfNode : List ℕ → Streams
+streamsOfNode node =
+    record { count = streamsOf node; property = propertyOf node; kinds = kindAt node; equations = equationAt node }
+
+-- how many lines there are
+abbrev pub linesOf : (cert : List ℕ) → ℕ
+linesOf cert = trailerOf cert .base + trailerOf cert .step
+
+-- the part that line i stands in, for a property stream
+abbrev pub partOf : (cert : List ℕ) → (property i : ℕ) → Window
+partOf cert property i =
+    let t = trailerOf cert in
+    cond (ltb i (t .base)) (baseWindow (t .depth) property (t .base)) (stepWindow (t .depth) property (t .base) (t .step))
+
+abbrev pub windowOf : (node cert : List ℕ) → (i : ℕ) → Window
+windowOf node cert i = partOf cert (propertyOf node) i
+
+-- the two parts
+abbrev pub baseOf : (node cert : List ℕ) → Window
+baseOf node cert = let t = trailerOf cert in baseWindow (t .depth) (propertyOf node) (t .base)
+
+abbrev pub stepOf : (node cert : List ℕ) → Window
+stepOf node cert = let t = trailerOf cert in stepWindow (t .depth) (propertyOf node) (t .base) (t .step)
+
+-- the first line of that part
+abbrev pub firstLine : (cert : List ℕ) → (i : ℕ) → ℕ
+firstLine cert i = partOf cert 0 i .from
+
+-- rule 15, of constraint i
+abbrev pub constraintPasses : (node cert : List ℕ) → (i : ℕ) → Bool
+constraintPasses node cert i = constraintOk (sortsOfNode node) (trailerOf cert .depth) (constraintOf cert i)
+
+-- rule 16, of line i
+unfoldable pub shapePasses : (node cert : List ℕ) → (i : ℕ) → Bool
+shapePasses node cert i =
+    shapeOk (sortsOfNode node) (trailerOf cert .depth) (trailerOf cert .constraints) (lineOf cert i)
+
+-- rule 17, of line i
+abbrev pub equationPasses : (node cert : List ℕ) → (i : ℕ) → Bool
+equationPasses node cert i =
+    equationOk (streamsOfNode node) (constraintOf cert) (trailerOf cert .constraints) (windowOf node cert i) (lineOf cert i)
+
+-- rule 18, of line i
+abbrev pub propertyPasses : (node cert : List ℕ) → (i : ℕ) → Bool
+propertyPasses node cert i = windowOf node cert i .property (lineOf cert i)
+
+-- rule 19, of line i
+abbrev pub joinPasses : (cert : List ℕ) → (i : ℕ) → Bool
+joinPasses cert i = joinOk (lineOf cert) (firstLine cert i) i
+
+-- rule 20, of line i
+abbrev pub arithmeticPasses : (cert : List ℕ) → (i : ℕ) → Bool
+arithmeticPasses cert i = arithmeticOk (constraintOf cert) (lineOf cert i)
+
+-- the rule of line i's kind
+unfoldable pub kindPasses : (node cert : List ℕ) → (i : ℕ) → Bool
+kindPasses node cert i =
+    kindOk (streamsOfNode node) (constraintOf cert) (trailerOf cert .constraints) (windowOf node cert i) (lineOf cert) i
+
+-- "lines are taken one at a time, 16 before its kind's number"
+abbrev pub linePasses : (node cert : List ℕ) → (i : ℕ) → Bool
+linePasses node cert i = shapePasses node cert i && kindPasses node cert i
+
+abbrev pub lineNumber : (node cert : List ℕ) → (i : ℕ) → ℕ
+lineNumber node cert i = cond (shapePasses node cert i) (16 + lineOf cert i .head .kind) 16
+
+-- the lowest line at fault, refused with the number of what it breaks
+abbrev pub checkLines : Found → (number : ℕ → ℕ) → Answer CertificateValues → Answer CertificateValues
+checkLines (At i) number rest = refused (number i) (AtLine i)
+checkLines Nothing number rest = rest
+
+-- "with its depth and both line counts, as the trailer has them"
+abbrev pub valuesOf : (cert : List ℕ) → CertificateValues
+valuesOf cert = let t = trailerOf cert in record { depth = t .depth; base = t .base; step = t .step }
+
+-- the checks of lines and parts
+unfoldable pub linesVerdict : (node cert : List ℕ) → Answer CertificateValues
+linesVerdict node cert =
+    checkLines (lowest (linePasses node cert) (linesOf cert)) (lineNumber node cert)
+    (check (hasEmpty (lineOf cert) (baseOf node cert)) 21 Base
+    (check (hasEmpty (lineOf cert) (stepOf node cert)) 21 Step
+    (accepted (valuesOf cert))))
+
+-- the checks of the constraints, then those of the lines
+unfoldable pub constraintsVerdict : (node cert : List ℕ) → Answer CertificateValues
+constraintsVerdict node cert =
+    checkAll (lowest (constraintPasses node cert) (trailerOf cert .constraints)) 15 AtConstraint
+    (linesVerdict node cert)
+
+-- the checks of the certificate file, then those of what it holds
+unfoldable pub certificateVerdict : (node cert : List ℕ) → Answer CertificateValues
+certificateVerdict node cert =
+    check (lengthOk (length cert)) 11 File
+    (check (fixedOk (trailerOf cert)) 12 File
+    (check (countsOk (trailerOf cert)) 13 File
+    (check (distanceOk (trailerOf cert) (length cert)) 14 File
+    (constraintsVerdict node cert))))
+
+-- "Certificate checks follow 1 to 8."
+abbrev pub afterNode : Answer NodeValues → Answer CertificateValues → Answer CertificateValues
+afterNode (accepted node) rest = rest
+afterNode (refused number place) rest = refused number place
+
+unfoldable pub verdictOf : (node cert : List ℕ) → Answer CertificateValues
+verdictOf node cert = afterNode (nodeVerdict node) (certificateVerdict node cert)
