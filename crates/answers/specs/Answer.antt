@@ -1,6 +1,7 @@
 -- An answer as the paper gives it: accepted with its values, or refused with a number and a place. The promises of
 -- reader, session and checker are stated by these, and not by the cases of the enums.
 use Prim.Native.Nat.{ℕ}
+use mathlib.Core.Bool.{Bool, true, false}
 use Rattle.answers.specs.declared.Place.{Place}
 use Rattle.answers.specs.declared.Rule.{Rule}
 use Rattle.answers.specs.declared.Rule.the-variants.{NodeLength, NodeFixedBytes, NodeCounts, NodeDistance, RecordShape, RecordOperands, RecordTypes, PropertyType, CertificateLength, CertificateFixedBytes, CertificateCounts, CertificateDistance, ConstraintShape, LineShape, EquationLine, PropertyLine, JoinLine, ArithmeticLine, NoEmptyLine, NoNode, InputCount, SliceLength, BoolInput, OutsideRange}
@@ -15,6 +16,14 @@ use Rattle.answers.specs.declared.InstantVerdict.the-variants.{Answered,
 pub data Answer (A : Type 0) : Type 0 where
   accepted : A → Answer A
   refused : (number : ℕ) → Place → Answer A
+
+-- what an accepted answer gives, or what a refusal keeps
+abbrev pub ifAccepted : {A S : Type 0} → Answer A → (moved kept : S) → S
+ifAccepted (accepted a) moved kept = moved
+ifAccepted (refused number place) moved kept = kept
+
+abbrev pub isAccepted : {A : Type 0} → Answer A → Bool
+isAccepted a = ifAccepted a true false
 
 -- the number in the table "Where each refusal is met"
 abbrev pub numberOf : Rule → ℕ

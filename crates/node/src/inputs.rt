@@ -7,7 +7,7 @@ ghost use mathlib.Core.Path.{_≡_};
 ghost use Rattle.node.specs.Inputs.{isInput, withRecord, inputCount, inputRecord};
 
 // Record i is an input.
-fn is_input(file: &[u8], i: usize) -> bool
+pub fn is_input(file: &[u8], i: usize) -> bool
     ensures { λ r. ⌜ r ≡ isInput (now (file .entry)) i ⌝ }
 {
     let record = record_of(file, i);

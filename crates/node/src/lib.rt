@@ -16,4 +16,5 @@ pub use file_note::note;
 pub use file_note::note_length;
 pub use inputs::input_count;
 pub use inputs::input_record;
+pub use inputs::is_input;
 pub use reading::verdict;

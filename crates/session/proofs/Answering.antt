@@ -1,142 +1,164 @@
--- The answer to a call where a session stands: 30 passes, 31 to 33 ask that the call be right, and 34 searches the solution's
--- values.
+-- The answer to an instant's call: which one each test in its turn gives, and what an answered call has passed.
 -- Assumes nothing.
-use mathlib.Core.Path.{_≡_, refl, sym, _∙_, ap, ap₂}
-use mathlib.Core.Logic.{_↔_}
-use mathlib.Core.Bool.{Bool, true, false, true≢false}
+use mathlib.Core.Path.{_≡_, refl, sym, _∙_, ap}
+use mathlib.Core.Bool.{Bool, true, false, not, cond, _&&_, _||_, false≢true}
 use mathlib.Core.List.{List}
-use Prim.Native.Nat.{ℕ, zero, suc, _<_}
-use native.Mathlib.Nat.{lt-suc-self}
+use Prim.Native.Nat.{ℕ, _≤_}
 use native.Mathlib.Omega.{arith}
-use borrow.Author.Tests.{eqb-true, eq-eqb}
-use lib.Dec.{eqb}
-use lib.IntN.{ℤ}
-use lib.ListN.{length}
-use Rattle.integers.specs.Range.{inside}
-use Rattle.answers.specs.declared.Found.{Found}
-use Rattle.answers.specs.declared.Found.the-variants.{At, Nothing}
+use borrow.Author.Tests.{leb-true, eqb-true}
+use lib.Dec.{leb, eqb}
+use lib.IntN.{ℤ, pos}
+use lib.ListN.{length, take}
 use Rattle.answers.specs.declared.Place.{Place}
 use Rattle.answers.specs.declared.Place.the-variants.{File, Record as AtRecord}
-use Rattle.answers.specs.Answer.{Answer, accepted, refused, NodeValues}
-use Rattle.answers.specs.Checks.{check, checkAll, lowest, Lowest}
-use Rattle.answers.proofs.InARow.{by-check, by-check-all}
-use Rattle.answers.proofs.Lowest.{none, all, first, found}
+use Rattle.answers.specs.declared.Rule.{Rule}
+use Rattle.answers.specs.declared.InstantVerdict.{InstantVerdict}
+use Rattle.answers.specs.declared.InstantVerdict.the-variants.{Refused}
+use Rattle.answers.specs.declared.Found.the-variants.{At, Nothing}
+use Rattle.answers.specs.Answer.{Answer, accepted, refused, numberOf, instantAnswer, NodeValues, isAccepted}
+use Rattle.answers.specs.Checks.{every, lowest}
+use Rattle.answers.proofs.InARow.{by-check}
+use Rattle.answers.proofs.Tests.{both-true}
 use Rattle.node.specs.Inputs.{inputCount}
 use Rattle.node.specs.Layout.{streamsOf}
 use Rattle.node.specs.Verdict.{verdictOf}
-use Rattle.streams.specs.Nodes.{Node}
-use Rattle.streams.specs.Solutions.{Streams}
+use Rattle.node.proofs.FileRules.{Sizes}
+use Rattle.node.proofs.Notes.{accepted-sizes}
+use Rattle.streams.specs.Evaluation.{upTo}
+use Rattle.streams.specs.Nodes.{nodeOf}
+use Rattle.streams.proofs.Evaluations.{instant-length}
 use Rattle.session.specs.declared.Session.{Session}
-use Rattle.session.specs.Instants.{inputFits, valueFits, answerOf}
-use Rattle.session.specs.Lists.{Call, Answered, answerTo}
-use Rattle.session.specs.Records.{held, isAccepted}
-use Rattle.session.specs.Theorems.{Right, Judged}
-use Rattle.session.proofs.InputTests.{typed-passes, passes-typed}
-use Rattle.session.proofs.Nodes.{input-fits-same}
-use Rattle.session.proofs.Standing.{Standing, held-node, holds-node, worked-out-is}
+use Rattle.session.specs.declared.holding.Held.the-variants.{Streams, NoNode}
+use Rattle.session.specs.Records.{filled, held, holdsNode, lastFits}
+use Rattle.session.specs.Instants.{inputFits, workedOut, valueFits, answerOf, sessionOf, sliceOf}
+use Rattle.session.specs.Working.{nodeHeld, instantOf, valueInside, movedTo}
+use Rattle.session.proofs.Filled.{start-of-filled}
 
--- ---- any answers
+-- a refusal is no answer
+pub not-answered : {A : Type 0} {number : ℕ} {place : Place} → _≡_ {A = Answer (Unit {0})} (refused number place) (accepted tt) → A
+not-answered e = let n : _≡_ {A = ℕ} 0 1 = cc in absurd (omega arith)
 
-pub refused-accepted : (number : ℕ) (place : Place) → _≡_ {A = Answer (Unit {0})} (refused number place) (accepted tt) → ⊥
-refused-accepted number place e = true≢false (sym (ap isAccepted e))
+-- ---- what the node that was found says of the record
 
-abbrev numberIn : Answer (Unit {0}) → ℕ
-numberIn (accepted a) = 0
-numberIn (refused number place) = number
-
--- tests that agree below n have the same lowest failure
-lowest-same : (f g : ℕ → Bool) (n : ℕ) → ((k : ℕ) → k < n → f k ≡ g k) → lowest f n ≡ lowest g n
-unfolding lowest
-lowest-same f g zero h = refl
-lowest-same f g (suc n) h = rw (lowest-same f g n (λ k l. h k (omega arith)), h n (lt-suc-self n))
-
--- ---- the search of 34 alone
-
-abbrev searched : Found → Answer (Unit {0})
-searched f = checkAll f 34 AtRecord (accepted tt)
-
-searched-accepted : (f : Found) → searched f ≡ accepted tt → f ≡ Nothing
-searched-accepted (At i) e = absurd (refused-accepted 34 (AtRecord i) e)
-searched-accepted Nothing e = refl
-
-searched-refused : (f : Found) (i : ℕ) → searched f ≡ refused 34 (AtRecord i) → f ≡ At i
-searched-refused (At k) i e = cc
-searched-refused Nothing i e = absurd (refused-accepted 34 (AtRecord i) (sym e))
-
-module _ (ok : ℕ → Bool) (n : ℕ) where
-  search-accepted : (searched (lowest ok n) ≡ accepted tt) ↔ ((i : ℕ) → i < n → ok i ≡ true)
-  search-accepted = (λ e. all ok n (searched-accepted (lowest ok n) e), λ h. ap searched (none ok n h))
-
-  search-refused : (i : ℕ) → (searched (lowest ok n) ≡ refused 34 (AtRecord i)) ↔ Lowest ok n i
-  search-refused i = (
-    λ e. first ok n i (searched-refused (lowest ok n) i e),
-    λ l. ap searched (found ok n i (l .below) (l .before) (l .fails)),
-  )
-
--- ---- 31 to 34 in order
-
-abbrev inOrder : (inputs : List ℤ) → (room count n : ℕ) → (fit ok : ℕ → Bool) → Answer (Unit {0})
-inOrder inputs room count n fit ok =
-    check (eqb (length inputs) count) 31 File
-    (check (eqb room n) 32 File
-    (checkAll (lowest fit n) 33 AtRecord
-    (searched (lowest ok n))))
-
-module _ (file : List ℕ) {node : NodeValues} (e : verdictOf file ≡ accepted node) (done : List Answered) (s : Session) (stands : Standing file done s) (c : Call) where
-  -- the checks ask of the record what they ask of the file
-  answer-is : answerTo s c ≡ inOrder (c .inputs) (length (c .slice)) (inputCount file) (streamsOf file) (inputFits file (c .inputs)) (valueFits s (c .inputs))
-  unfolding answerOf
-  answer-is =
-      ap (λ (b : Bool). check b 30 File (inOrder (c .inputs) (length (c .slice)) (inputCount (held s)) (streamsOf (held s)) (inputFits (held s) (c .inputs)) (valueFits s (c .inputs)))) (holds-node file e done s stands)
-      ∙ ap₂ (λ (n : Node) (fit : ℕ → Bool). inOrder (c .inputs) (length (c .slice)) (n .inputs) (n .streams) fit (valueFits s (c .inputs)))
-      (held-node file e done s stands)
-      (ap (λ (f : List ℕ). inputFits f (c .inputs)) (stands .holds) ∙ input-fits-same file e (c .inputs))
-
-  -- what holds of the refusals 31 to 33, and of 34's search, holds of the answer
-  by-answer : (P : Answer (Unit {0}) → Type 0) → P (refused 31 File) → P (refused 32 File) → ((i : ℕ) → P (refused 33 (AtRecord i))) → (Right file c → P (searched (lowest (valueFits s (c .inputs)) (streamsOf file)))) → P (answerTo s c)
-  by-answer P p31 p32 p33 rest =
-      rw answer-is
-      (by-check P (eqb (length (c .inputs)) (inputCount file)) 31 File _ (λ f. p31) λ e31.
-      by-check P (eqb (length (c .slice)) (streamsOf file)) 32 File _ (λ f. p32) λ e32.
-      by-check-all P (lowest (inputFits file (c .inputs)) (streamsOf file)) 33 AtRecord _ (λ i f. p33 i) λ e33.
-      rest (record {
-        typed = passes-typed file (c .inputs) e (eqb-true _ _ e31) (all (inputFits file (c .inputs)) (streamsOf file) e33);
-        sized = eqb-true _ _ e32;
-      }))
-
-  pub never-30 : (place : Place) → answerTo s c ≡ refused 30 place → ⊥
-  never-30 place =
-      by-answer (λ a. a ≡ refused 30 place → ⊥) (other 31 File (λ m. omega arith)) (other 32 File (λ m. omega arith)) (λ i. other 33 (AtRecord i) (λ m. omega arith))
-      λ right. by-check-all (λ a. a ≡ refused 30 place → ⊥) (lowest (valueFits s (c .inputs)) (streamsOf file)) 34 AtRecord (accepted tt)
-      (λ i f. other 34 (AtRecord i) (λ m. omega arith)) (λ f q. refused-accepted 30 place (sym q))
+module _ (s : Session) where
+  pub holds-none : nodeHeld s ≡ NoNode → holdsNode s ≡ false
+  unfolding nodeHeld
+  holds-none = go (holdsNode s)
     where
-      other : (n : ℕ) (at : Place) → (n ≡ 30 → ⊥) → _≡_ {A = Answer (Unit {0})} (refused n at) (refused 30 place) → ⊥
-      other n at differs q = differs (ap numberIn q)
+      go : (b : Bool) → cond b (Streams (streamsOf (held s))) NoNode ≡ NoNode → b ≡ false
+      go true e = let n : _≡_ {A = ℕ} 0 1 = cc in absurd (omega arith)
+      go false e = refl
 
-  pub accepted-right : answerTo s c ≡ accepted tt → Right file c
-  accepted-right =
-      by-answer (λ a. a ≡ accepted tt → Right file c)
-      (λ q. absurd (refused-accepted 31 File q)) (λ q. absurd (refused-accepted 32 File q)) (λ i q. absurd (refused-accepted 33 (AtRecord i) q))
-      (λ right q. right)
+  pub holds-one : {n : ℕ} → nodeHeld s ≡ Streams n → (holdsNode s ≡ true) × (n ≡ streamsOf (held s))
+  unfolding nodeHeld
+  holds-one {n} = go (holdsNode s)
+    where
+      go : (b : Bool) → cond b (Streams (streamsOf (held s))) NoNode ≡ Streams n → (b ≡ true) × (n ≡ streamsOf (held s))
+      go true e = (refl, cc)
+      go false e = let n : _≡_ {A = ℕ} 0 1 = cc in absurd (omega arith)
 
-  -- a right call comes to 34
-  right-answer : Right file c → answerTo s c ≡ searched (lowest (valueFits s (c .inputs)) (streamsOf file))
-  right-answer right =
-      answer-is
-      ∙ rw (eq-eqb _ _ (right .typed .count), eq-eqb _ _ (right .sized), none (inputFits file (c .inputs)) (streamsOf file) (typed-passes file (c .inputs) (right .typed)))
+  module _ (e : holdsNode s ≡ true) where
+    accepted-held : (leb (s .length) 1040 ≡ true) × (isAccepted (verdictOf (held s)) ≡ true)
+    unfolding holdsNode
+    accepted-held =
+        both-true (leb (s .length) 1040) (isAccepted (verdictOf (held s)))
+        (both-true (leb (s .length) 1040 && isAccepted (verdictOf (held s))) (not (s .started) || every (lastFits s) (streamsOf (held s))) e .0)
 
-  module _ (v : Streams) (judged : Judged file done c v) (right : Right file c) where
-    -- .. which searches the solution's values
-    judged-answer : answerTo s c ≡ searched (lowest (λ k. inside (v (length done) k)) (streamsOf file))
-    unfolding valueFits
-    judged-answer =
-        right-answer right
-        ∙ ap searched
-        (lowest-same (valueFits s (c .inputs)) (λ k. inside (v (length done) k)) (streamsOf file)
-        (λ k l. ap inside (worked-out-is file e done s stands (c .inputs) (judged .inputs) (judged .starts) (judged .own) v (judged .solves) k l)))
+    pub held-short : s .length ≤ 1040
+    held-short = leb-true (s .length) 1040 (accepted-held .0)
 
-    pub answered-inside : (answerTo s c ≡ accepted tt) ↔ ((i : ℕ) → i < streamsOf file → inside (v (length done) i) ≡ true)
-    answered-inside = rw judged-answer (search-accepted (λ k. inside (v (length done) k)) (streamsOf file))
+    pub held-sizes : Sizes (held s)
+    held-sizes = go (verdictOf (held s)) refl (accepted-held .1)
+      where
+        go : (a : Answer NodeValues) → verdictOf (held s) ≡ a → isAccepted a ≡ true → Sizes (held s)
+        go (accepted node) e t = accepted-sizes (held s) e
+        go (refused number place) e t = absurd (false≢true t)
 
-    pub refused-outside : (i : ℕ) → (answerTo s c ≡ refused 34 (AtRecord i)) ↔ Lowest (λ k. inside (v (length done) k)) (streamsOf file) i
-    refused-outside i = rw judged-answer (search-refused (λ k. inside (v (length done) k)) (streamsOf file) i)
+-- ---- the answer at each test
+
+module _ (s : Session) (inputs : List ℤ) (room : ℕ) where
+  pub answer-30 : holdsNode s ≡ false → refused 30 File ≡ answerOf s inputs room
+  unfolding answerOf
+  answer-30 e = rw e
+
+  module _ (holds : holdsNode s ≡ true) where
+    pub answer-31 : eqb (length inputs) (inputCount (held s)) ≡ false → refused 31 File ≡ answerOf s inputs room
+    unfolding answerOf
+    answer-31 e = rw (holds, e)
+
+    module _ (count : eqb (length inputs) (inputCount (held s)) ≡ true) where
+      pub answer-32 : eqb room (streamsOf (held s)) ≡ false → refused 32 File ≡ answerOf s inputs room
+      unfolding answerOf
+      answer-32 e = rw (holds, count, e)
+
+      module _ (sized : eqb room (streamsOf (held s)) ≡ true) where
+        pub answer-33 : {i : ℕ} → lowest (inputFits (held s) inputs) (streamsOf (held s)) ≡ At i → refused 33 (AtRecord i) ≡ answerOf s inputs room
+        unfolding answerOf
+        answer-33 e = rw (holds, count, sized, e)
+
+        module _ (typed : lowest (inputFits (held s) inputs) (streamsOf (held s)) ≡ Nothing) where
+          pub answer-34 : {i : ℕ} → lowest (valueFits s inputs) (streamsOf (held s)) ≡ At i → refused 34 (AtRecord i) ≡ answerOf s inputs room
+          unfolding answerOf
+          answer-34 e = rw (holds, count, sized, typed, e)
+
+          pub answer-none : lowest (valueFits s inputs) (streamsOf (held s)) ≡ Nothing → accepted tt ≡ answerOf s inputs room
+          unfolding answerOf
+          answer-none e = rw (holds, count, sized, typed, e)
+
+  -- the outcome of a refusal: it owes no values
+  pub refusal : {answer : InstantVerdict} {rule : Rule} {place : Place} (values : List ℤ) → answer ≡ Refused rule place → refused (numberOf rule) place ≡ answerOf s inputs room → (instantAnswer answer ≡ answerOf s inputs room) × (instantAnswer answer ≡ accepted tt → values ≡ filled 64 (pos 0) (workedOut s inputs))
+  refusal values e f = (ap instantAnswer e ∙ f, λ a. not-answered (sym (ap instantAnswer e) ∙ a))
+
+  -- ---- what an answered call has passed
+
+  abbrev Passed : Answer (Unit {0}) → Type 0
+  Passed a = a ≡ accepted tt → (holdsNode s ≡ true) × (eqb room (streamsOf (held s)) ≡ true)
+
+  passed : Passed (answerOf s inputs room)
+  unfolding answerOf
+  passed =
+      by-check Passed (holdsNode s) 30 File _ (λ e. not-answered) λ holds.
+      by-check Passed (eqb (length inputs) (inputCount (held s))) 31 File _ (λ e. not-answered) λ count.
+      by-check Passed (eqb room (streamsOf (held s))) 32 File _ (λ e. not-answered) λ sized e. (holds, sized)
+
+  pub answered-room : answerOf s inputs room ≡ accepted tt → room ≡ streamsOf (held s)
+  answered-room e = eqb-true room (streamsOf (held s)) (passed e .1)
+
+  pub answered-few : answerOf s inputs room ≡ accepted tt → room ≤ 64
+  answered-few e = omega (arith, answered-room e, held-sizes s (passed e .0) .few)
+
+-- ---- the values of the held node's instant
+
+module _ (s : Session) (inputs : List ℤ) where
+  pub worked-is : instantOf (held s) inputs (not (s .started)) (s .last) ≡ workedOut s inputs
+  unfolding instantOf workedOut
+  worked-is = refl
+
+  pub fits-is : (n : ℕ) → lowest (valueInside (instantOf (held s) inputs (not (s .started)) (s .last))) n ≡ lowest (valueFits s inputs) n
+  unfolding instantOf workedOut valueFits
+  fits-is n = refl
+
+  worked-length : length (workedOut s inputs) ≡ streamsOf (held s)
+  unfolding workedOut
+  worked-length = instant-length (nodeOf (held s)) (upTo (streamsOf (held s))) inputs (not (s .started)) (s .last)
+
+  -- ---- record and slice
+
+  module _ (room : ℕ) where
+    pub moves : (values : List ℤ) → answerOf s inputs room ≡ accepted tt → values ≡ filled 64 (pos 0) (workedOut s inputs) → movedTo s values ≡ sessionOf s inputs room
+    unfolding sessionOf
+    moves values a e = rw (a, e)
+
+    pub keeps-record : {number : ℕ} {place : Place} → answerOf s inputs room ≡ refused number place → s ≡ sessionOf s inputs room
+    unfolding sessionOf
+    keeps-record e = rw e
+
+  pub writes : (slice values : List ℤ) → answerOf s inputs (length slice) ≡ accepted tt → values ≡ filled 64 (pos 0) (workedOut s inputs) → take (length slice) values ≡ sliceOf s inputs slice
+  unfolding sliceOf
+  writes slice values a e =
+      rw (a, e)
+      (start-of-filled 64 (length slice) (pos 0) (workedOut s inputs) (worked-length ∙ sym (answered-room s inputs (length slice) a)))
+
+  pub keeps-slice : (slice : List ℤ) {number : ℕ} {place : Place} → answerOf s inputs (length slice) ≡ refused number place → slice ≡ sliceOf s inputs slice
+  unfolding sliceOf
+  keeps-slice slice e = rw e

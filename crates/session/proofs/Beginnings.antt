@@ -1,43 +1,35 @@
--- An answered beginning sets a record at which a session stands, with no call answered.
+-- A beginning: an accepted file without its note fits into the record, and what the record then is.
 -- Assumes nothing.
-use mathlib.Core.Path.{_≡_, refl, ap}
-use mathlib.Core.Bool.{true≢false}
-use mathlib.Core.List.{List, []}
-use Prim.Native.Nat.{ℕ, _≤_}
+use mathlib.Core.Path.{_≡_, ap}
+use mathlib.Core.Bool.{false}
+use mathlib.Core.List.{List}
+use Prim.Native.Nat.{ℕ, _+_, _-_, _≤_}
 use native.Mathlib.Omega.{arith}
-use lib.ListN.{length}
-use lib.Seq.{take-append-seam}
-use Rattle.answers.specs.Answer.{accepted, NodeValues}
-use Rattle.node.specs.Layout.{streamsOf}
-use Rattle.node.specs.Note.{withoutNote}
+use lib.IntN.{pos}
+use lib.ListN.{length, drop, replicate, length-drop}
+use Rattle.answers.specs.declared.Place.{Place}
+use Rattle.answers.specs.Answer.{accepted, refused, NodeValues}
+use Rattle.node.specs.Note.{noteLength}
 use Rattle.node.specs.Verdict.{verdictOf}
-use Rattle.node.proofs.Notes.{accepted-sizes, rest-size}
+use Rattle.node.proofs.Notes.{accepted-sizes, note-is}
 use Rattle.node.proofs.Outcomes.{accepted-values}
 use Rattle.session.specs.declared.Session.{Session}
-use Rattle.session.specs.Records.{begun, begunOf, held}
-use Rattle.session.proofs.Showing.{shows-none}
-use Rattle.session.proofs.Standing.{Standing}
+use Rattle.session.specs.Records.{filled, begun, begunOf}
 
-module _ (file : List ℕ) {node : NodeValues} (e : verdictOf file ≡ accepted node) where
-  pub begun-is : (before : Session) → begunOf file before ≡ begun file
-  unfolding begunOf
-  begun-is before = rw e
+module _ (file : List ℕ) where
+  pub fits-record : {node : NodeValues} → verdictOf file ≡ accepted node → length file ≤ noteLength file + 1040
+  fits-record {node} e =
+      let n-is = ap (λ (v : NodeValues). v .streams) (accepted-values file e) in
+      omega (arith, note-is file e, accepted-sizes file e .few)
 
-  pub begun-held : held (begun file) ≡ withoutNote file
-  begun-held = take-append-seam (withoutNote file) _
+  pub begun-is : (start : ℕ) (copy : List ℕ) → start ≡ noteLength file → copy ≡ filled 1040 0 (drop start file) → record { file = copy; length = length file - start; started = false; last = replicate 64 (pos 0) } ≡ begun file
+  begun-is start copy e f = rw (f, e, length-drop (noteLength file) file)
 
-  pub begun-short : length (withoutNote file) ≤ 1040
-  begun-short =
-      let n-is : node .streams ≡ streamsOf file = ap (λ (v : NodeValues). v .streams) (accepted-values file e) in
-      omega (arith, rest-size file e, accepted-sizes file e .few)
+  module _ (before : Session) where
+    pub begins : {node : NodeValues} → verdictOf file ≡ accepted node → begun file ≡ begunOf file before
+    unfolding begunOf
+    begins e = rw e
 
-  pub begun-stands : Standing file [] (begun file)
-  begun-stands =
-      record {
-        holds = begun-held;
-        short = begun-short;
-        first = refl;
-        last = λ u starts v solves past. absurd (true≢false past);
-        fits = λ past. absurd (true≢false past);
-        shows = shows-none file;
-      }
+    pub keeps : {number : ℕ} {place : Place} → verdictOf file ≡ refused number place → before ≡ begunOf file before
+    unfolding begunOf
+    keeps e = rw e

@@ -1,9 +1,16 @@
 pub mod Answering
 pub mod Beginnings
+pub mod CallAnswers
+pub mod Filled
+pub mod HeldNodes
 pub mod InputTests
 pub mod Judging
+pub mod JustBegun
+pub mod Kept
 pub mod Nodes
 pub mod Sessions
 pub mod Showing
 pub mod Standing
 pub mod Steps
+pub mod Typed
+pub mod WorkingOut

@@ -4,14 +4,14 @@
 use mathlib.Core.Path.{_≡_, sym, subst}
 use mathlib.Core.List.{List, [], _∷_, _++_, append-nil, append-assoc}
 use Prim.Native.Nat.{ℕ}
-use Rattle.answers.specs.Answer.{accepted, NodeValues}
+use Rattle.answers.specs.Answer.{accepted, NodeValues, ifAccepted}
 use Rattle.node.specs.Verdict.{verdictOf}
 use Rattle.session.specs.declared.Session.{Session}
 use Rattle.session.specs.Lists.{Call, Answered, answerTo, after, afterAll, answered}
-use Rattle.session.specs.Records.{begun, ifAccepted}
+use Rattle.session.specs.Records.{begun}
 use Rattle.session.specs.Theorems.{Shows, Exact, SessionsExact}
-use Rattle.session.proofs.Answering.{never-30, accepted-right, answered-inside, refused-outside}
-use Rattle.session.proofs.Beginnings.{begun-is, begun-stands}
+use Rattle.session.proofs.CallAnswers.{never-30, accepted-right, answered-inside, refused-outside}
+use Rattle.session.proofs.JustBegun.{begun-is, begun-stands}
 use Rattle.session.proofs.Judging.{judged}
 use Rattle.session.proofs.Standing.{Standing}
 use Rattle.session.proofs.Steps.{told, step-stands, refused-keeps}

@@ -9,7 +9,7 @@ use native.Mathlib.Omega.{arith}
 use lib.IntN.{ℤ, pos}
 use lib.ListN.{length, List·getD-append}
 use Rattle.answers.specs.declared.Place.{Place}
-use Rattle.answers.specs.Answer.{Answer, accepted, refused, NodeValues}
+use Rattle.answers.specs.Answer.{Answer, accepted, refused, NodeValues, ifAccepted}
 use Rattle.node.specs.Equations.{kindAt}
 use Rattle.node.specs.Layout.{streamsOf}
 use Rattle.node.specs.Verdict.{verdictOf}
@@ -21,9 +21,9 @@ use Rattle.streams.proofs.Agreement.{SamePast}
 use Rattle.session.specs.declared.Session.{Session}
 use Rattle.session.specs.Instants.{workedOut, movedOn, sessionOf, sliceOf}
 use Rattle.session.specs.Lists.{Call, Answered, answerTo, after, sliceAfter}
-use Rattle.session.specs.Records.{filled, ifAccepted}
+use Rattle.session.specs.Records.{filled}
 use Rattle.session.specs.Theorems.{Right}
-use Rattle.session.proofs.Answering.{accepted-right}
+use Rattle.session.proofs.CallAnswers.{accepted-right}
 use Rattle.session.proofs.Showing.{more-length, call-own, starts-before, shows-more}
 use Rattle.session.proofs.Standing.{Standing, worked-out-length, worked-out-fits, worked-out-is}
 

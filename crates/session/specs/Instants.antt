@@ -7,7 +7,7 @@ use lib.IntN.{ℤ, pos}
 use lib.ListN.{length}
 use Rattle.integers.specs.Range.{inside}
 use Rattle.answers.specs.declared.Place.the-variants.{File, Record as AtRecord}
-use Rattle.answers.specs.Answer.{Answer, accepted}
+use Rattle.answers.specs.Answer.{Answer, accepted, ifAccepted}
 use Rattle.answers.specs.Checks.{check, checkAll, lowest}
 use Rattle.node.specs.Equations.{kindAt}
 use Rattle.node.specs.Inputs.{isInput, inputCount}
@@ -17,7 +17,7 @@ use Rattle.streams.specs.Nodes.{nodeOf}
 use Rattle.streams.specs.Typing.{fitsTest, given}
 use Rattle.streams.specs.Values.{valuesIn}
 use Rattle.session.specs.declared.Session.{Session}
-use Rattle.session.specs.Records.{held, holdsNode, filled, ifAccepted}
+use Rattle.session.specs.Records.{held, holdsNode, filled}
 
 -- 33: "bool input not 0 or 1", of record i
 unfoldable pub inputFits : (file : List ℕ) → (inputs : List ℤ) → (i : ℕ) → Bool

@@ -2,3 +2,4 @@ pub mod Instants
 pub mod Lists
 pub mod Records
 pub mod Theorems
+pub mod Working

@@ -3,10 +3,9 @@ use Prim.Native.Nat.{ℕ}
 use mathlib.Core.List.{List, [], _∷_, _++_}
 use lib.IntN.{ℤ}
 use lib.ListN.{length, getD}
-use Rattle.answers.specs.Answer.{Answer}
+use Rattle.answers.specs.Answer.{Answer, ifAccepted}
 use Rattle.session.specs.declared.Session.{Session}
 use Rattle.session.specs.Instants.{answerOf, sessionOf, sliceOf}
-use Rattle.session.specs.Records.{ifAccepted}
 
 -- inputs and slice "as they stood at each call's entry"
 pub record Call : Type 0 where

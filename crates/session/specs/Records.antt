@@ -1,11 +1,11 @@
 -- The session record: "The caller lends the session record, and an answered instant moves that very record on."
 use Prim.Native.Nat.{ℕ, _-_}
 use mathlib.Core.List.{List, _++_}
-use mathlib.Core.Bool.{Bool, true, false, not, _&&_, _||_}
+use mathlib.Core.Bool.{Bool, false, not, _&&_, _||_}
 use lib.Dec.{leb}
-use lib.IntN.{ℤ, pos}
+use lib.IntN.{pos}
 use lib.ListN.{length, take, replicate}
-use Rattle.answers.specs.Answer.{Answer, accepted, refused, NodeValues}
+use Rattle.answers.specs.Answer.{ifAccepted, isAccepted}
 use Rattle.answers.specs.Checks.{every}
 use Rattle.node.specs.Equations.{kindAt}
 use Rattle.node.specs.Layout.{streamsOf}
@@ -30,11 +30,6 @@ begun file =
       last = replicate 64 (pos 0);
     }
 
--- what an accepted answer gives, or what a refusal keeps
-abbrev pub ifAccepted : {A S : Type 0} → Answer A → (moved kept : S) → S
-ifAccepted (accepted a) moved kept = moved
-ifAccepted (refused number place) moved kept = kept
-
 -- the record after a beginning: "checked by 1 to 8"
 unfoldable pub begunOf : (file : List ℕ) → (before : Session) → Session
 begunOf file before = ifAccepted (verdictOf file) (begun file) before
@@ -42,9 +37,6 @@ begunOf file before = ifAccepted (verdictOf file) (begun file) before
 -- the node file that the record holds
 abbrev pub held : Session → List ℕ
 held s = take (s .length) (s .file)
-
-abbrev pub isAccepted : {A : Type 0} → Answer A → Bool
-isAccepted a = ifAccepted a true false
 
 -- stream i of the last answered instant fits its type
 abbrev pub lastFits : Session → (i : ℕ) → Bool

@@ -9,7 +9,7 @@ use lib.ListN.{length, replicate, length-replicate}
 use Rattle.integers.specs.Range.{inside}
 use Rattle.fields.specs.Fields.{twosComplement}
 use Rattle.answers.specs.declared.Place.the-variants.{File, Record as AtRecord, Line as AtLine, Base}
-use Rattle.answers.specs.Answer.{Answer, accepted, refused, NodeValues}
+use Rattle.answers.specs.Answer.{Answer, accepted, refused, NodeValues, ifAccepted}
 use Rattle.answers.specs.Checks.{lowest, every}
 use Rattle.node.specs.Equations.{kindAt, decoded}
 use Rattle.node.specs.Inputs.{inputsBelow}
@@ -29,9 +29,9 @@ use Rattle.streams.specs.Evaluation.{upTo, evaluated, instant}
 use Rattle.streams.specs.Values.{equals, truth, valuesIn}
 use Rattle.session.specs.Instants.{inputFits, workedOut, valueFits, answerOf, sliceOf}
 use Rattle.session.specs.Lists.{Call}
-use Rattle.session.specs.Records.{begun, holdsNode, ifAccepted}
-use Rattle.session.proofs.Answering.{accepted-right}
-use Rattle.session.proofs.Beginnings.{begun-stands}
+use Rattle.session.specs.Records.{begun, holdsNode}
+use Rattle.session.proofs.CallAnswers.{accepted-right}
+use Rattle.session.proofs.JustBegun.{begun-stands}
 use Rattle.session.proofs.Standing.{worked-out-is}
 use Rattle.soundness.specs.Files.{rec, nodeFile, noughts, minusOne, atMost, line, certificateFile}
 use Rattle.soundness.specs.Starred.{FirstCall, Answers, checks, reads, refuses, twoBands, doubling, ofSize, twoInts, opposites, constantTrue, ofDepth, withoutLines, bothAsked, greatestDoubled, leastDoubled, cases, Holds, Starred}

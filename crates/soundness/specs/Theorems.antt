@@ -1,15 +1,10 @@
 -- What an accepted certificate proves, stated without the proofs.
 use mathlib.Core.Path.{_≡_}
 use Prim.Native.Nat.{ℕ}
-use mathlib.Core.Bool.{Bool, true, false}
 use mathlib.Core.List.{List}
-use Rattle.answers.specs.Answer.{Answer, accepted, refused, CertificateValues}
+use Rattle.answers.specs.Answer.{accepted, CertificateValues}
 use Rattle.rules.specs.Theorems.{PropertyHolds}
 use Rattle.rules.specs.Verdict.{verdictOf}
-
-abbrev pub isAccepted : Answer CertificateValues → Bool
-isAccepted (accepted v) = true
-isAccepted (refused number place) = false
 
 -- whatever bytes the two files hold
 abbrev pub Sound : Type 0

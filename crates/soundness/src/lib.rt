@@ -2,9 +2,9 @@
 use answers::CertificateVerdict;
 ghost use mathlib.Core.Path.{_≡_};
 ghost use mathlib.Core.Bool.{true};
+ghost use Rattle.answers.specs.Answer.{isAccepted};
 ghost use Rattle.rules.specs.Verdict.{verdictOf};
 ghost use Rattle.rules.specs.Theorems.{PropertyHolds};
-ghost use Rattle.soundness.specs.Theorems.{isAccepted};
 
 // Whether the certificate proves the node's property; where it does, the second promise says what that means.
 pub fn is_proved(node: &[u8], cert: &[u8]) -> bool

@@ -1,0 +1,59 @@
+-- Lists that are filled up, and lists written over the start of others.
+-- Assumes nothing.
+use mathlib.Core.Path.{_≡_, refl, sym, _∙_, ap}
+use mathlib.Core.List.{List, [], _∷_, _++_, append-nil}
+use Prim.Native.Nat.{ℕ, zero, suc, _+_, _-_, _<_, _≤_}
+use native.Mathlib.Nat.{zero-add, sub-zero, zero-sub, suc-sub-suc}
+use native.Mathlib.Numerals.{add-one}
+use native.Mathlib.Omega.{arith}
+use lib.ListN.{length, getD, set, take, drop, replicate, length-append, length-replicate}
+use lib.Seq.{ext-getD, getD-drop, take-at, take-all, drop-length, paste-suc, length-paste}
+use Rattle.session.specs.Records.{filled}
+
+module _ {A : Type 0} where
+  pub same-everywhere : (n i : ℕ) (z : A) → getD (replicate n z) i z ≡ z
+  same-everywhere zero i z = refl
+  same-everywhere (suc n) zero z = refl
+  same-everywhere (suc n) (suc i) z = same-everywhere n i z
+
+  -- what fills a list up is what stands for a missing entry
+  filled-at : (n : ℕ) (l : List A) (i : ℕ) (z : A) → getD (l ++ replicate n z) i z ≡ getD l i z
+  filled-at n [] i z = same-everywhere n i z
+  filled-at n (x ∷ l) zero z = refl
+  filled-at n (x ∷ l) (suc i) z = filled-at n l i z
+
+  -- so a list of n entries that are those of l is l, filled up
+  pub is-filled : (n : ℕ) (z : A) (l entries : List A) → length entries ≡ n → length l ≤ n → ((i : ℕ) → getD entries i z ≡ getD l i z) → entries ≡ filled n z l
+  is-filled n z l entries e h same =
+      ext-getD z entries (filled n z l)
+      (e ∙ sym (length-append l (replicate (n - length l) z) ∙ omega (arith, length-replicate (n - length l) z)))
+      (λ i b. same i ∙ sym (filled-at (n - length l) l i z))
+
+  pub start-of-filled : (m n : ℕ) (z : A) (l : List A) → length l ≡ n → take n (filled m z l) ≡ l
+  start-of-filled m n z l e = take-at l (replicate (m - length l) z) n e
+
+  -- ---- the first i entries of l over those of d
+
+  abbrev pub over : (d l : List A) → (i : ℕ) → List A
+  over d l i = take i l ++ drop i d
+
+  pub over-more : (d l : List A) (i : ℕ) (z : A) → i < length d → i < length l → set (over d l i) i (getD l i z) ≡ over d l (i + 1)
+  over-more d l i z h k = simp add-one (simp zero-add at (paste-suc d 0 l i z (simp zero-add h) k))
+
+  pub over-length : (d l : List A) (i : ℕ) → i ≤ length d → i ≤ length l → length (over d l i) ≡ length d
+  over-length d l i h k = simp zero-add at (length-paste d 0 l i (simp zero-add h) k)
+
+  pub over-whole : (d l : List A) → over d l (length d) ≡ take (length d) l
+  over-whole d l = ap (λ (r : List A). take (length d) l ++ r) (drop-length d) ∙ append-nil (take (length d) l)
+
+  drop-replicate : (n i : ℕ) (z : A) → drop i (replicate n z) ≡ replicate (n - i) z
+  drop-replicate n zero z = ap (λ (k : ℕ). replicate k z) (sym (sub-zero n))
+  drop-replicate zero (suc i) z = ap (λ (k : ℕ). replicate k z) (sym (zero-sub (suc i)))
+  drop-replicate (suc n) (suc i) z = drop-replicate n i z ∙ ap (λ (k : ℕ). replicate k z) (sym (suc-sub-suc n i))
+
+  pub over-fill : (n : ℕ) (z : A) (l : List A) → over (replicate n z) l (length l) ≡ filled n z l
+  over-fill n z l = rw (take-all (length l) l (omega arith), drop-replicate n (length l) z)
+
+-- a byte more of what stands from an offset on
+pub copied-more : (d file : List ℕ) (start i : ℕ) (copy : List ℕ) → copy ≡ over d (drop start file) i → i < length d → i < length (drop start file) → set copy i (getD file (start + i) 0) ≡ over d (drop start file) (i + 1)
+copied-more d file start i copy e h k = rw (e, ← getD-drop start file i 0) (over-more d (drop start file) i 0 h k)

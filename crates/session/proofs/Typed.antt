@@ -1,0 +1,15 @@
+-- Numbers against their types, as the machine reads them.
+-- Assumes nothing.
+use mathlib.Core.Path.{_≡_, _∙_, ap₂}
+use mathlib.Core.Bool.{Bool}
+use lib.IntN.{ℤ}
+use mir.Syntax.{w64}
+use mir.Val.{SFits}
+use mir.Facts.{toZ-ofZ}
+use Rattle.integers.proofs.Reading.{rd}
+use Rattle.node.specs.declared.equation.Kind.{Kind}
+use Rattle.streams.specs.Typing.{fitsTest}
+
+-- the test of a type and a number that are those asked for is the test asked for
+pub typed-is : (kind asked : Kind) (x number : ℤ) {r : Bool} → SFits w64 x → kind ≡ asked → x ≡ number → r ≡ fitsTest kind (rd w64 x) → r ≡ fitsTest asked number
+typed-is kind asked x number f k n e = e ∙ ap₂ fitsTest k (toZ-ofZ f ∙ n)

@@ -1,0 +1,181 @@
+-- `session::outcome_of` meets its contract: each test in its turn is the definition's.
+-- Assumes nothing.
+use mathlib.Core.Path.{_≡_, sym, _∙_, ap}
+use mathlib.Core.Bool.{true}
+use native.Mathlib.Omega.{arith}
+use borrow.Author.Tests.{eq-eqb, ne-eqb}
+use denote.Ref.{now}
+use lib.Dec.{eqb}
+use lib.ListN.{length, length-map}
+use lib.Seq.{length-take-le}
+use Rattle.answers.specs.declared.Found.the-variants.{Nothing}
+use Rattle.answers.specs.Checks.{lowest}
+use Rattle.node.specs.Inputs.{inputCount}
+use Rattle.node.specs.Layout.{streamsOf}
+use lib.IntN.{pos}
+use Prim.Native.Nat.{_≤_}
+use Rattle.session.specs.Records.{filled, held, holdsNode}
+use Rattle.session.specs.Instants.{inputFits, valueFits}
+use Rattle.session.proofs.Answering.{holds-none, holds-one, held-short, held-sizes, answer-30, answer-31, answer-32, answer-33, answer-34, answer-none, refusal, worked-is, fits-is}
+use borrow.Author.Needs.{needs}
+use Rattle.session.proofs.outcomes.outcome_of.Statement.{statement}
+use Rattle.session.proofs.outcomes.outcome_of.Tie as tie
+
+node-held-requires : tie.Need-node-held-requires
+node-held-requires c κs = search needs
+
+enum-known-n : tie.Need-enum-known-n
+enum-known-n c = search needs
+
+enum-told : tie.Need-enum-told
+enum-told c = search needs
+
+refused-requires : tie.Need-refused-requires
+refused-requires c κs = search needs
+
+-- the node that was found is the record's
+one : (c : tie.After-known-told) → let s = c .before .before .before .before .args .s in (holdsNode s ≡ true) × (c .before .n .given .0 .0 ≡ streamsOf (held s))
+one c = holds-one _ (sym (c .before .before .before .node-held .ensures) ∙ c .before .n .given .1)
+
+file-long : (c : tie.Start) → length (c .args .s .file) ≡ 1040
+file-long c = simp length-map at (c .good .0 .1 .1 .0 .1 .0 .1)
+
+abbrev told-of : tie.Else2 → tie.After-known-told
+told-of c = c .before .before .before .before .before .before
+
+returns : tie.Need-returns
+returns c =
+    refusal _ _ _ _ (c .refused .ensures)
+    (answer-30 _ _ _ (holds-none _ (sym (c .before .before .before .node-held .ensures) ∙ c .before .enum-told .given .1)))
+
+array-share-prefix-file : tie.Need-array-share-prefix-file
+array-share-prefix-file c = let told = c .before .before in omega (arith, file-long (told .before .before .before .before), held-short _ (one told .0))
+
+slice-aggregate-node : tie.Need-slice-aggregate-node
+slice-aggregate-node c =
+    let told = c .before .before .before in
+    sym (length-take-le _ _ (omega (arith, file-long (told .before .before .before .before), held-short _ (one told .0))))
+
+input-count-requires : tie.Need-input-count-requires
+input-count-requires c κs = search needs
+
+refused-requires-2 : tie.Need-refused-requires-2
+refused-requires-2 c κs = search needs
+
+counted : (c : tie.Else1) → let a = c .before .before .before .before .before .before .before .before .before .args in eqb (length (now (a .inputs))) (inputCount (held (a .s))) ≡ true
+counted c = rw (c .before .input-count .ensures) at (eq-eqb _ _ (c .if1 .left))
+
+sized : (c : tie.Else2) → let a = told-of c .before .before .before .before .args in eqb (a .room) (streamsOf (held (a .s))) ≡ true
+sized c = rw (one (told-of c) .1) at (eq-eqb _ _ (c .if2 .left))
+
+few : (c : tie.Else2) → told-of c .before .n .given .0 .0 ≤ 64
+few c = omega (arith, one (told-of c) .1, held-sizes _ (one (told-of c) .0) .few)
+
+-- what the searches found is the definition's
+bad-is : (c : tie.After-first-bad) → let a = told-of (c .before) .before .before .before .before .args in lowest (inputFits (held (a .s)) (now (a .inputs))) (streamsOf (held (a .s))) ≡ c .first-bad .result
+bad-is c = ap (lowest _) (sym (one (told-of (c .before)) .1)) ∙ sym (c .first-bad .ensures)
+
+typed : (c : tie.After-enum-told2) → let a = told-of (c .before .before .before) .before .before .before .before .args in lowest (inputFits (held (a .s)) (now (a .inputs))) (streamsOf (held (a .s))) ≡ Nothing
+typed c = bad-is (c .before .before) ∙ c .enum-told2 .given .1
+
+outside-is : (c : tie.After-worked-out) → let a = told-of (c .before .before .before .before .before .before) .before .before .before .before .args in lowest (valueFits (a .s) (now (a .inputs))) (streamsOf (held (a .s))) ≡ c .worked-out .result .outside
+outside-is c =
+    let at = c .before .before .before .before .before .before in
+    ap (lowest _) (sym (one (told-of at) .1)) ∙ sym (fits-is _ _ _) ∙ sym (c .worked-out .ensures .0)
+
+returns-2 : tie.Need-returns-2
+returns-2 c =
+    let at = c .before .before in
+    refusal _ _ _ _ (c .refused2 .ensures)
+    (answer-31 _ _ _ (one (at .before .before .before .before) .0) (rw (at .input-count .ensures) at (ne-eqb _ _ (c .before .if1 .taken))))
+
+refused-requires-3 : tie.Need-refused-requires-3
+refused-requires-3 c κs = search needs
+
+returns-3 : tie.Need-returns-3
+returns-3 c =
+    let at = c .before .before in
+    let told = at .before .before .before .before .before in
+    refusal _ _ _ _ (c .refused3 .ensures)
+    (answer-32 _ _ _ (one told .0) (counted at) (rw (one told .1) at (ne-eqb _ _ (c .before .if2 .taken))))
+
+first-bad-requires : tie.Need-first-bad-requires
+first-bad-requires c κs = few c
+
+enum-known-i : tie.Need-enum-known-i
+enum-known-i c = search needs
+
+refused-requires-4 : tie.Need-refused-requires-4
+refused-requires-4 c κs = search needs
+
+returns-4 : tie.Need-returns-4
+returns-4 c =
+    let found = c .before .before .before .before in
+    let at = found .before in
+    refusal _ _ _ _ (c .refused4 .ensures)
+    (answer-33 _ _ _ (one (told-of at) .0) (counted (at .before)) (sized at) (bad-is found ∙ c .before .before .i .given .1))
+
+enum-told-2 : tie.Need-enum-told-2
+enum-told-2 c = search needs
+
+slice-aggregate-worked-out : tie.Need-slice-aggregate-worked-out
+slice-aggregate-worked-out c = search needs
+
+worked-out-requires : tie.Need-worked-out-requires
+worked-out-requires c κs = let at = c .before .before .before .before .before in (one (told-of at) .1, few at)
+
+enum-known-outside : tie.Need-enum-known-outside
+enum-known-outside c = search needs
+
+refused-requires-5 : tie.Need-refused-requires-5
+refused-requires-5 c κs = search needs
+
+returns-5 : tie.Need-returns-5
+returns-5 c =
+    let worked = c .before .before .before .before in
+    let told = worked .before .before .before in
+    let at = told .before .before .before in
+    refusal _ _ _ _ (c .refused5 .ensures)
+    (answer-34 _ _ _ (one (told-of at) .0) (counted (at .before)) (sized at) (typed told) (outside-is worked ∙ c .before .before .outside .given .1))
+
+enum-told-3 : tie.Need-enum-told-3
+enum-told-3 c = search needs
+
+returns-6 : tie.Need-returns-6
+returns-6 c =
+    let worked = c .before .before .before in
+    let told = worked .before .before .before in
+    let at = told .before .before .before in
+    let none = c .before .enum-told3 .given .1 in (
+      answer-none _ _ _ (one (told-of at) .0) (counted (at .before)) (sized at) (typed told) (outside-is worked ∙ none),
+      λ e. worked .worked-out .ensures .1 none ∙ ap (filled 64 (pos 0)) (worked-is _ _),
+    )
+
+pub outcome-of-spec : {M : Type 1} → statement M
+outcome-of-spec =
+    tie.close
+    (tie.spec
+    node-held-requires
+    enum-known-n
+    enum-told
+    refused-requires
+    returns
+    array-share-prefix-file
+    slice-aggregate-node
+    input-count-requires
+    refused-requires-2
+    returns-2
+    refused-requires-3
+    returns-3
+    first-bad-requires
+    enum-known-i
+    refused-requires-4
+    returns-4
+    enum-told-2
+    slice-aggregate-worked-out
+    worked-out-requires
+    enum-known-outside
+    refused-requires-5
+    returns-5
+    enum-told-3
+    returns-6)

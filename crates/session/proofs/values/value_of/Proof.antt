@@ -1,0 +1,36 @@
+-- `session::value_of` meets its contract: the value of the stream's equation.
+-- Assumes nothing.
+use mathlib.Core.Path.{_∙_, ap₂}
+use lib.IntN.{ℤ}
+use denote.Ref.{now}
+use mir.Syntax.{w64}
+use mir.Val.{SFits}
+use mir.Facts.{toZ-ofZ}
+use Rattle.integers.specs.Range.{checkedOf}
+use Rattle.node.specs.declared.equation.Equation.{Equation}
+use Rattle.streams.specs.Meaning.{meaning}
+use Rattle.streams.specs.Values.{valuesIn}
+use borrow.Author.Needs.{needs}
+use Rattle.session.proofs.values.value_of.Statement.{statement}
+use Rattle.session.proofs.values.value_of.Tie as tie
+
+equation-of-requires : tie.Need-equation-of-requires
+equation-of-requires c κs = search needs
+
+number-at-requires : tie.Need-number-at-requires
+number-at-requires c κs = search needs
+
+value-requires : tie.Need-value-requires
+value-requires c κs = search needs
+
+returns : tie.Need-returns
+returns c =
+    let a = c .before .before .before .before .args in
+    let f : SFits w64 (c .before .number-at .result) = search needs in
+    c .value .ensures
+    ∙ ap₂ (λ (e : Equation) (g : ℤ). checkedOf (meaning e g (a .first) (valuesIn (now (a .past))) (valuesIn (now (a .present)))))
+    (c .before .before .equation-of .ensures)
+    (toZ-ofZ f ∙ c .before .number-at .ensures)
+
+pub value-of-spec : {M : Type 1} → statement M
+value-of-spec = tie.close (tie.spec equation-of-requires number-at-requires value-requires returns)

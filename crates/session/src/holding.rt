@@ -1,0 +1,62 @@
+// Whether a record holds a node.
+use crate::Session;
+use crate::numbers::is_typed;
+use crate::numbers::number_at;
+use answers::NodeVerdict;
+use node::kind_of;
+use node::verdict;
+ghost use mathlib.Core.Path.{_≡_};
+ghost use Rattle.answers.specs.Checks.{every};
+ghost use Rattle.session.specs.Working.{valueTyped, nodeIn, nodeHeld};
+
+// The node that a record holds: how many streams it has.
+pub enum Held {
+    Streams(usize),
+    NoNode,
+}
+
+// Each of the first n values fits its stream's type.
+fn are_typed(file: &[u8], values: &[i64], n: usize) -> bool
+    ensures { λ r. ⌜ r ≡ every (valueTyped (now (file .entry)) (now (values .entry))) n ⌝ }
+{
+    let mut i = 0;
+    while i < n {
+        if !is_typed(kind_of(file, i), number_at(values, i)) {
+            return false;
+        }
+        i += 1;
+    }
+    true
+}
+
+// The node of a file, past instant 0 with the last answered values.
+fn node_in(file: &[u8], started: bool, last: &[i64]) -> Held
+    ensures { λ r. ⌜ r ≡ nodeIn (now (file .entry)) started (now (last .entry)) ⌝ }
+{
+    match verdict(file) {
+        NodeVerdict::Accepted {
+            streams,
+            property: _,
+        } => {
+            if !started | are_typed(file, last, streams) {
+                Held::Streams(streams)
+            } else {
+                Held::NoNode
+            }
+        }
+        NodeVerdict::Refused(_, _) => Held::NoNode,
+    }
+}
+
+// The node of a record. A record is anyone's to fill: its length is looked at before its file is.
+pub fn node_held(s: Session) -> Held
+    ensures { λ r. ⌜ r ≡ nodeHeld s ⌝ }
+{
+    let length = s.length;
+    if 1040 < length {
+        return Held::NoNode;
+    }
+    let file = s.file;
+    let last = s.last;
+    node_in(&file[..length], s.started, &last)
+}

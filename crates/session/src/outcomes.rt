@@ -1,0 +1,65 @@
+// The answer to an instant's call, and its values.
+use crate::Session;
+use crate::holding::Held;
+use crate::holding::node_held;
+use crate::inputs::first_bad;
+use crate::values::worked_out;
+use answers::Found;
+use answers::InstantVerdict;
+use answers::Place;
+use answers::Rule;
+use node::input_count;
+ghost use mathlib.Core.Path.{_≡_};
+ghost use lib.IntN.{pos};
+ghost use Rattle.answers.specs.Answer.{accepted, instantAnswer};
+ghost use Rattle.session.specs.Instants.{answerOf, workedOut};
+ghost use Rattle.session.specs.Records.{filled};
+
+// The answer, and the values of an answered call.
+pub struct Outcome {
+    pub answer: InstantVerdict,
+    pub values: [i64; 64],
+}
+
+// A refusal has no values.
+fn refused(rule: Rule, place: Place) -> Outcome
+    ensures { λ r. ⌜ r .answer ≡ InstantVerdict.Refused rule place ⌝ }
+{
+    Outcome {
+        answer: InstantVerdict::Refused(rule, place),
+        values: [0i64; 64],
+    }
+}
+
+// 30 to 34 in order, for a slice of `room` values.
+pub fn outcome_of(s: Session, inputs: &[i64], room: usize) -> Outcome
+    ensures { λ r. ⌜ instantAnswer (r .answer) ≡ answerOf s (now (inputs .entry)) room ⌝ }
+    ensures { λ r. ⌜ (instantAnswer (r .answer) ≡ accepted tt → r .values ≡ filled 64 (pos 0) (workedOut s (now (inputs .entry)))) ⌝ }
+{
+    let Held::Streams(n) = node_held(s) else {
+        return refused(Rule::NoNode, Place::File);
+    };
+    let length = s.length;
+    let file = s.file;
+    let last = s.last;
+    let node = &file[..length];
+    if inputs.len() != input_count(node) {
+        return refused(Rule::InputCount, Place::File);
+    }
+    if room != n {
+        return refused(Rule::SliceLength, Place::File);
+    }
+    if let Found::At(i) = first_bad(node, inputs, n) {
+        return refused(Rule::BoolInput, Place::Record(i));
+    }
+    let worked = worked_out(node, inputs, !s.started, &last, n);
+    let outside = worked.outside;
+    if let Found::At(i) = outside {
+        return refused(Rule::OutsideRange, Place::Record(i));
+    }
+    let values = worked.values;
+    Outcome {
+        answer: InstantVerdict::Answered,
+        values,
+    }
+}

@@ -1,0 +1,77 @@
+// The values of all streams at one instant.
+use crate::inputs::with_record;
+use crate::numbers::number_at;
+use answers::Found;
+use integers::Checked;
+use node::equation_of;
+use streams::value;
+ghost use Prim.Native.Nat.{_≤_};
+ghost use mathlib.Core.Path.{_≡_};
+ghost use lib.IntN.{pos};
+ghost use lib.ListN.{getD};
+ghost use Rattle.integers.specs.Range.{checkedOf};
+ghost use Rattle.answers.specs.declared.Found.the-variants.{Nothing};
+ghost use Rattle.answers.specs.Checks.{lowest};
+ghost use Rattle.node.specs.Equations.{equationAt};
+ghost use Rattle.node.specs.Layout.{streamsOf};
+ghost use Rattle.streams.specs.Meaning.{meaning};
+ghost use Rattle.streams.specs.Values.{valuesIn};
+ghost use Rattle.session.specs.Records.{filled};
+ghost use Rattle.session.specs.Working.{instantOf, valueInside};
+
+// The lowest stream whose value 64 signed bits do not hold, and the values where there is none.
+pub struct Worked {
+    pub outside: Found,
+    pub values: [i64; 64],
+}
+
+// The value of stream i, whose input, if it is one, is the number j of them.
+fn value_of(
+    file: &[u8],
+    inputs: &[i64],
+    first: bool,
+    past: &[i64],
+    present: &[i64],
+    i: usize,
+    j: usize,
+) -> Checked
+    ensures { λ r. ⌜ r ≡ checkedOf (meaning (equationAt (now (file .entry)) i) (getD (now (inputs .entry)) j (pos 0)) first (valuesIn (now (past .entry))) (valuesIn (now (present .entry)))) ⌝ }
+{
+    value(
+        equation_of(file, i),
+        number_at(inputs, j),
+        first,
+        past,
+        present,
+    )
+}
+
+// All n streams in record order, untaken branches too, up to the first whose value 64 signed bits do not hold.
+pub fn worked_out(file: &[u8], inputs: &[i64], first: bool, past: &[i64], n: usize) -> Worked
+    requires { ⌜ (n ≡ streamsOf (now file)) × (n ≤ 64) ⌝ }
+    ensures { λ r. ⌜ r .outside ≡ lowest (valueInside (instantOf (now (file .entry)) (now (inputs .entry)) first (now (past .entry)))) n ⌝ }
+    ensures { λ r. ⌜ (r .outside ≡ Nothing → r .values ≡ filled 64 (pos 0) (instantOf (now (file .entry)) (now (inputs .entry)) first (now (past .entry)))) ⌝ }
+{
+    let mut values = [0i64; 64];
+    let mut j = 0;
+    let mut i = 0;
+    while i < n {
+        match value_of(file, inputs, first, past, &values, i, j) {
+            Checked::Value(v) => {
+                values[i] = v;
+            }
+            Checked::Outside => {
+                return Worked {
+                    outside: Found::At(i),
+                    values,
+                };
+            }
+        }
+        j = with_record(file, i, j);
+        i += 1;
+    }
+    Worked {
+        outside: Found::Nothing,
+        values,
+    }
+}
