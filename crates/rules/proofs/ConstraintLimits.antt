@@ -1,14 +1,12 @@
 -- Rule 15 keeps a constraint within its limits, and rule 16 has a literal on a constraint name one of the file's.
 -- Assumes nothing.
 use mathlib.Core.Path.{_≡_, refl}
-use mathlib.Core.List.{List}
 use mathlib.Core.Bool.{Bool, true, false, not, _&&_, _||_}
 use Prim.Native.Nat.{ℕ, _-_, _≤_, _<_}
 use native.Mathlib.Omega.{arith}
-use borrow.Author.Tests.{leb-true, leb-false, ltb-true, lt-leb, eqb-true}
+use borrow.Author.Tests.{leb-true, ltb-true, lt-leb, eqb-true}
 use lib.Dec.{leb, eqb}
 use lib.IntN.{ℤ, pos, negℤ, natAbs}
-use lib.ListN.{length, getD, List·getD-eq-default}
 use lib.Signed.{leZ}
 use Rattle.integers.proofs.Abs.{abs-≤}
 use Rattle.integers.proofs.Order.{leZ-true}
@@ -18,7 +16,7 @@ use Rattle.answers.proofs.Tests.{both-true}
 use Rattle.constraints.specs.declared.layout.Term.{Term}
 use Rattle.constraints.specs.Layout.{Constraint}
 use Rattle.constraints.specs.Linear.{variable}
-use Rattle.constraints.specs.Rules.{Sorts, sortsOf, between, boundLimit, coefficientLimit, usedOk, rises, termOk, constraintOk}
+use Rattle.constraints.specs.Rules.{Sorts, between, boundLimit, coefficientLimit, usedOk, rises, termOk, constraintOk}
 use Rattle.rules.specs.Literals.{isConstraint, constraintNumber, namesAtom}
 use Rattle.rules.specs.Limited.{Limited}
 
@@ -31,15 +29,6 @@ between-abs n z e =
 -- int streams are among the first 64
 abbrev pub Few : Sorts → Type 0
 Few sorts = (x : ℕ) → sorts x ≡ 1 → x < 64
-
-pub few-sorts : (l : List ℕ) → length l ≤ 64 → Few (sortsOf l)
-few-sorts l most x e = go (leb (length l) x) refl
-  where
-    go : (t : Bool) → leb (length l) x ≡ t → x < 64
-    go true t =
-        let past : getD l x 2 ≡ 2 = List·getD-eq-default l 2 (leb-true (length l) x t) in
-        omega (arith, past, e)
-    go false t = omega (arith, leb-false (length l) x t)
 
 -- a used term
 module _ (sorts : Sorts) (few : Few sorts) (k : ℕ) (deep : k ≤ 8) (t : Term) (e : usedOk sorts k t ≡ true) where
