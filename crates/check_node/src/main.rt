@@ -1,7 +1,9 @@
 // Says the verdict on each node file that an argument names, or on node.bin in the current folder where there is none.
 // An unopenable file is empty; of a longer one the first 65,536 bytes are read, which is enough to refuse its length.
+use answers::CertificateVerdict;
 use answers::NodeVerdict;
 use answers::Place;
+use answers::Rule;
 use files::read_file;
 use libc::STDOUT_FILENO;
 
@@ -14,15 +16,11 @@ fn say_number(before: &[u8], n: usize) {
     io::print_decimal(STDOUT_FILENO, n as u64);
 }
 
-fn say_place(place: Place) {
-    match place {
-        Place::File => say(b" file"),
-        Place::Record(i) => say_number(b" record ", i),
-        Place::Constraint(i) => say_number(b" constraint ", i),
-        Place::Line(i) => say_number(b" line ", i),
-        Place::Base => say(b" base"),
-        Place::Step => say(b" step"),
-    }
+// A refusal is said as that of a certificate is.
+fn say_refused(rule: Rule, place: Place) {
+    let mut line = [0u8; 96];
+    let length = report::write_line(CertificateVerdict::Refused(rule, place), &mut line);
+    say(&line[..length]);
 }
 
 // One line: the verdict, and of an accepted file also its inputs and how long its note is.
@@ -33,13 +31,10 @@ fn say_verdict(file: &[u8]) {
             say_number(b" property ", property);
             say_number(b" inputs ", node::input_count(file));
             say_number(b" note ", node::note(file).len());
+            say(b"\n");
         }
-        NodeVerdict::Refused(rule, place) => {
-            say_number(b"refused ", answers::number(rule));
-            say_place(place);
-        }
+        NodeVerdict::Refused(rule, place) => say_refused(rule, place),
     }
-    say(b"\n");
 }
 
 fn check_file(path: &[u8]) {

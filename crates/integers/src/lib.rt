@@ -1,12 +1,13 @@
 // Signed 64-bit arithmetic that is checked against whole numbers: each operation gives the whole-number result
 // where it lies within −2^63 .. 2^63 − 1, and says that it is outside where it does not.
+use sign::signed;
 ghost use mathlib.Core.Path.{_≡_};
 ghost use lib.IntN.{_+ℤ_, _-ℤ_, _*ℤ_};
 ghost use Rattle.integers.specs.Range.{checkedOf};
-use sign::magnitude;
-use sign::signed;
 
 mod sign;
+
+pub use sign::magnitude;
 
 // A whole-number result, where 64 signed bits hold it.
 pub enum Checked {

@@ -1,9 +1,9 @@
 // A signed number as its sign and its magnitude.
+use crate::Checked;
+use crate::LEAST;
 ghost use mathlib.Core.Path.{_≡_};
 ghost use lib.IntN.{natAbs};
 ghost use Rattle.integers.specs.Range.{checkedOf, signedOf};
-use crate::Checked;
-use crate::LEAST;
 
 // The magnitude of a, which 64 bits with no sign hold even for −2^63.
 pub fn magnitude(a: i64) -> u64

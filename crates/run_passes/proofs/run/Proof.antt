@@ -1,0 +1,67 @@
+-- `run_passes::run` is safe and ends. The first call lies within the bytes that are left; the measure is how many they are.
+-- Assumes nothing.
+use Prim.Native.Nat.{_≤_}
+use lib.ListN.{length}
+use mathlib.Core.Path.{sym}
+use native.Mathlib.Omega.{arith}
+use lib.Seq.{length-take-le}
+use borrow.Author.Needs.{needs}
+use Rattle.run_passes.proofs.run.Statement.{statement}
+use Rattle.run_passes.proofs.run.Tie as tie
+
+abbrev Inv-loop : tie.InvT-loop
+Inv-loop calls s₀ left₀ size₀ s left size = size ≤ length left
+
+abbrev μ-loop : tie.MeasureT-loop
+μ-loop calls s₀ left₀ size₀ s left size = length left
+
+first-size-requires : tie.Need-first-size-requires Inv-loop μ-loop
+first-size-requires c κs = search needs
+
+loop-holds : tie.Need-loop-holds Inv-loop μ-loop
+loop-holds c = search needs
+
+slice-aggregate-called : tie.Need-slice-aggregate-called Inv-loop μ-loop
+slice-aggregate-called c = sym (length-take-le _ _ (omega arith))
+
+called-requires : tie.Need-called-requires Inv-loop μ-loop
+called-requires c κs = search needs
+
+sub-left : tie.Need-sub-left Inv-loop μ-loop
+sub-left c = search needs
+
+part-left-start : tie.Need-part-left-start Inv-loop μ-loop
+part-left-start c = search needs
+
+part-left-end : tie.Need-part-left-end Inv-loop μ-loop
+part-left-end c = search needs
+
+first-size-requires-2 : tie.Need-first-size-requires-2 Inv-loop μ-loop
+first-size-requires-2 c κs = search needs
+
+loop-less : tie.Need-loop-less Inv-loop μ-loop
+loop-less c = search needs
+
+loop-again : tie.Need-loop-again Inv-loop μ-loop
+loop-again c = search needs
+
+returns : tie.Need-returns Inv-loop μ-loop
+returns c = search needs
+
+pub run-spec : {M : Type 1} → statement M
+run-spec =
+    tie.close
+    (tie.spec
+    Inv-loop
+    μ-loop
+    first-size-requires
+    loop-holds
+    slice-aggregate-called
+    called-requires
+    sub-left
+    part-left-start
+    part-left-end
+    first-size-requires-2
+    loop-less
+    loop-again
+    returns)

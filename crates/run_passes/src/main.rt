@@ -1,0 +1,123 @@
+// Runs sessions. Arguments come in twos, a node file and a pass file: a session is begun on the node, from a zeroed record, and makes
+// each call of the pass in turn, also where the beginning was refused. One line for the beginning, after the pass file's name, and
+// one a call: its values or its refusal, and then whether the refusal kept the slice.
+use answers::InstantVerdict;
+use answers::NodeVerdict;
+use files::read_file;
+use session::Session;
+use session::begun;
+use session::work;
+
+mod pass;
+mod say;
+
+// What the slice holds before each call.
+const MARK: i64 = 7;
+
+fn begun_on(file: &[u8]) -> Session {
+    let record = Session {
+        file: [0u8; 1040],
+        length: 0,
+        started: false,
+        last: [0i64; 64],
+    };
+    let t = begun(record, file);
+    let answer = t.answer;
+    match answer {
+        NodeVerdict::Accepted {
+            streams,
+            property: _,
+        } => say::number(b"begun streams ", streams),
+        NodeVerdict::Refused(rule, place) => say::refused(rule, place),
+    }
+    say::text(b"\n");
+    t.session
+}
+
+fn is_kept(slice: &[i64]) -> bool {
+    let mut i = 0;
+    while i < slice.len() {
+        if slice[i] != MARK {
+            return false;
+        }
+        i += 1;
+    }
+    true
+}
+
+fn say_kept(slice: &[i64]) {
+    if is_kept(slice) {
+        say::text(b" kept");
+    } else {
+        say::text(b" CHANGED");
+    }
+}
+
+fn say_answer(answer: InstantVerdict, slice: &[i64]) {
+    match answer {
+        InstantVerdict::Answered => say::answered(slice),
+        InstantVerdict::Refused(rule, place) => {
+            say::refused(rule, place);
+            say_kept(slice);
+        }
+    }
+    say::text(b"\n");
+}
+
+// The session after a call.
+fn stepped(s: Session, inputs: &[i64], slice: &mut [i64]) -> Session {
+    let t = work(s, inputs, slice);
+    let answer = t.answer;
+    say_answer(answer, slice);
+    t.session
+}
+
+// The session after a call of a pass.
+fn called(s: Session, call: &[u8]) -> Session {
+    let inputs = pass::numbers(call);
+    let count = pass::input_count(call);
+    let mut slice = [MARK; 65];
+    let room = pass::slice_length(call);
+    stepped(s, &inputs[..count], &mut slice[..room])
+}
+
+fn run(begun: Session, calls: &[u8]) {
+    let mut s = begun;
+    let mut left = calls;
+    let mut size = pass::first_size(left);
+    while 0 < size {
+        s = called(s, &left[..size]);
+        left = &left[size..];
+        size = pass::first_size(left);
+    }
+}
+
+fn run_files(node_path: &[u8], pass_path: &[u8]) {
+    let mut node = io::large_buffer();
+    let mut calls = io::large_buffer();
+    let n = read_file(node_path, &mut node);
+    let m = read_file(pass_path, &mut calls);
+    let s = begun_on(&node[..n]);
+    run(s, &calls[..m]);
+}
+
+// The pair that two arguments name.
+fn run_pair(node_number: usize, pass_number: usize) {
+    let mut node_path = io::buffer();
+    let mut pass_path = io::buffer();
+    let n = os::arg(node_number, &mut node_path);
+    let m = os::arg(pass_number, &mut pass_path);
+    say::text(&pass_path[..m]);
+    say::text(b": ");
+    run_files(&node_path[..n], &pass_path[..m]);
+}
+
+// Argument 0 is the program's own name. A last node file without a pass file's name has a pass without calls.
+fn main() {
+    let pairs = os::arg_count() / 2;
+    let mut pair = 0;
+    while pair < pairs {
+        run_pair(2 * pair + 1, 2 * pair + 2);
+        pair += 1;
+    }
+}

@@ -1,0 +1,43 @@
+// The words of a line, on standard output.
+use answers::CertificateVerdict;
+use answers::Place;
+use answers::Rule;
+use integers::magnitude;
+use libc::STDOUT_FILENO;
+
+pub fn text(bytes: &[u8]) {
+    io::write_all(STDOUT_FILENO, bytes);
+}
+
+pub fn number(before: &[u8], n: usize) {
+    text(before);
+    io::print_decimal(STDOUT_FILENO, n as u64);
+}
+
+// A refusal, as the line of a verdict has it but for its end.
+pub fn refused(rule: Rule, place: Place) {
+    let mut line = [0u8; 96];
+    let length = report::write_line(CertificateVerdict::Refused(rule, place), &mut line);
+    if 0 < length {
+        text(&line[..length - 1]);
+    }
+}
+
+// A signed number, after a space.
+fn signed(x: i64) {
+    if x < 0 {
+        text(b" -");
+    } else {
+        text(b" ");
+    }
+    io::print_decimal(STDOUT_FILENO, magnitude(x));
+}
+
+pub fn answered(values: &[i64]) {
+    text(b"answered");
+    let mut i = 0;
+    while i < values.len() {
+        signed(values[i]);
+        i += 1;
+    }
+}
