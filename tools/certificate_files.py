@@ -113,9 +113,9 @@ class Proof:
     def property(self, q, *literals):
         return self.add(2, literals, q=q)
 
-    def arithmetic(self, *literals):
-        """A kind 4 line, each multiplier 1."""
-        return self.add(4, literals, multipliers=(1,) * len(literals))
+    def arithmetic(self, *literals, times=None):
+        """A kind 4 line, each multiplier 1 where none are given."""
+        return self.add(4, literals, multipliers=times or (1,) * len(literals))
 
     def join(self, p, q, r, *more):
         """Lines p and q joined on r: what they leave, each literal once, and more."""
@@ -128,3 +128,8 @@ class Proof:
             [r] = {x for x in self.lines[line].literals if opp(x) in self.lines[other].literals}
             line = self.join(line, other, r)
         return line
+
+    def clash(self, *lines, times=None):
+        """The constraints of these lines, one in each, can't hold together: what the lines have besides them."""
+        used = [literal for line in lines for literal in self.lines[line].literals if literal >= on(0)]
+        return self.strike(self.arithmetic(*map(opp, used), times=times), *lines)

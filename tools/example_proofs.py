@@ -173,19 +173,26 @@ def delayed():
     return proof.certificate()
 
 
-def ring():
-    proof = Proof(8)
-    line = proof.property(0, *[opp(lit(63, j)) for j in range(8)])
-    for j in range(8):
+def ring(low=56, high=63):
+    """Each stream from low to high is true -> pre the one below it, and the lowest of them true -> pre the highest."""
+    size = high - low + 1
+
+    def taken(i, offset):
+        """That the stream i below the highest is so because the next one was."""
+        return proof.equation(high - i, offset, 1, lit(high - i, offset), opp(lit(high - i - 1, offset - 1)))
+
+    proof = Proof(size)
+    line = proof.property(0, *[opp(lit(high, j)) for j in range(size)])
+    for j in range(size):
         for i in range(j):
-            line = proof.strike(line, proof.equation(63 - i, j - i, 1, lit(63 - i, j - i), opp(lit(62 - i, j - i - 1))))
-        line = proof.strike(line, proof.equation(63 - j, 0, 1, lit(63 - j), opp(lit(0))))
+            line = proof.strike(line, taken(i, j - i))
+        line = proof.strike(line, proof.equation(high - j, 0, 1, lit(high - j), opp(lit(0))))
     proof.strike(line, proof.equation(0, 0, 0, lit(0)))
     proof.begin_step()
-    line = proof.property(8, opp(lit(63, 8)))
-    for i in range(7):
-        line = proof.strike(line, proof.equation(63 - i, 8 - i, 1, lit(63 - i, 8 - i), opp(lit(62 - i, 7 - i))))
-    proof.strike(line, proof.equation(56, 1, 1, lit(56, 1), opp(lit(63))), proof.property(0, lit(63)))
+    line = proof.property(size, opp(lit(high, size)))
+    for i in range(size - 1):
+        line = proof.strike(line, taken(i, size - i))
+    proof.strike(line, proof.equation(low, 1, 1, lit(low, 1), opp(lit(high))), proof.property(0, lit(high)))
     return proof.certificate()
 
 

@@ -5,11 +5,12 @@
 
 Each case gives a node file, a certificate file and the verdict line, written down from the published rules and not computed by
 any checker. The files go to crates/check_pairs/data, the names, node and certificate in turn, to args and the lines to stdout
-beside it. examples/two-bands/cert.bin is written too, and the data and stdout of crates/check_certificate.
+beside it. The data and stdout of crates/check_certificate are written too.
 """
 import example_proofs
+from booking_proofs import LATE, base_for_step, start_only
 from certificate_files import Certificate, Line, Proof, constraint, lit, on, opp, term, trailer
-from node_files import BOOL, INPUT, INT, ROOT, TWO_BANDS, node, rec, replaced, write_data, write_lines
+from node_files import BOOL, INPUT, INT, TWO_BANDS, node, rec, replaced, write_data, write_lines
 
 NODES = dict(example_proofs.NODES)
 CASES = []
@@ -348,11 +349,6 @@ def of_parts():
     bands("19-in-step-before-21-base", BANDS.changed(11, literals=(lit(1),)).changed(23, r=lit(1)), 19, "line 23")
 
 
-def start_only(proof):
-    """The base of the late nodes, whose property 3 begins true: {!3}, {3, !0}, {0}, joins {!0} and { }."""
-    proof.strike(proof.property(0, opp(lit(3))), proof.equation(3, 0, 1, lit(3), opp(lit(0))), proof.equation(0, 0, 0, lit(0)))
-
-
 def as_instant_0():
     """Step offset 0 taken for instant 0, where 2 is true: line 7."""
     proof = Proof(1)
@@ -360,16 +356,6 @@ def as_instant_0():
     proof.begin_step()
     proof.strike(proof.property(1, opp(lit(3, 1))), proof.equation(3, 1, 1, lit(3, 1), opp(lit(2))),
                  proof.equation(2, 0, 1, lit(2), opp(lit(0))), proof.equation(0, 0, 0, lit(0)))
-    return proof.certificate()
-
-
-def base_for_step():
-    """The step's line 6 joins the base's {!0} and {0}."""
-    proof = Proof(1)
-    start_only(proof)
-    proof.begin_step()
-    proof.property(1, opp(lit(3, 1)))
-    proof.join(3, 2, opp(lit(0)))
     return proof.certificate()
 
 
@@ -385,10 +371,9 @@ def both_signs_struck():
 
 def false_turns():
     """The properties of the late nodes and of the wish fail. The counter's holds, but not by lines that drop the -1."""
-    true, start = rec(1, BOOL, k=1), rec(13, BOOL, 0, 2)
     # 3 = true -> pre 2 fails at instant 2, where 2 = true -> pre 1 or true -> 1, an input
-    NODES["late"] = node([true, INPUT, rec(13, BOOL, 0, 1), start], 3)
-    NODES["late-arrow"] = node([true, INPUT, rec(12, BOOL, 0, 1), start], 3)
+    NODES["late"] = node(LATE, 3)
+    NODES["late-arrow"] = node(replaced(LATE, 2, rec(12, BOOL, 0, 1)), 3)
     NODES["wish"] = node([INPUT, rec(2, BOOL, 0)], 1)
     refused("false-turn-step-offset-0-as-instant-0", "late", as_instant_0(), 17, "line 7")
     refused("false-turn-step-offset-0-as-instant-0-of-arrow", "late-arrow", as_instant_0(), 17, "line 7")
@@ -409,7 +394,6 @@ def main():
     write_lines("check_pairs", "args", [name for pair in CASES for name in pair[:2]])
     write_lines("check_pairs", "stdout", [f"{name}: {says}" for _, name, _, says in CASES])
 
-    (ROOT / "examples" / "two-bands" / "cert.bin").write_bytes(BANDS.file())
     write_data("check_certificate", {"node.bin": NODES["two-bands"], "cert.bin": BANDS.file()})
     write_lines("check_certificate", "stdout", ["accepted depth 1 base 12 step 12"])
     print(f"{len(CASES)} pairs")

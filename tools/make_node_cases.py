@@ -4,9 +4,9 @@
     python3 tools/make_node_cases.py
 
 Each case gives a file and its verdict line, written down from the published rules and not computed by any reader. The files
-go to crates/check_node/data, their names to args and the lines to stdout beside it. examples/two-bands/node.bin is written too.
+go to crates/check_node/data, their names to args and the lines to stdout beside it.
 """
-from node_files import ALL, BOOL, INPUT, INT, ROOT, TWO_BANDS, node, rec, replaced, trailer, write_data, write_lines
+from node_files import ALL, BOOL, INPUT, INT, TWO_BANDS, node, rec, replaced, trailer, write_data, write_lines
 
 CASES = []
 
@@ -134,7 +134,6 @@ def main():
     write_data("check_node", {name: content for name, content, _ in CASES})
     write_lines("check_node", "args", [name for name, _, _ in CASES])
     write_lines("check_node", "stdout", [f"{name}: {says}" for name, _, says in CASES])
-    (ROOT / "examples" / "two-bands" / "node.bin").write_bytes(node(TWO_BANDS, 5))
     print(f"{len(CASES)} cases")
 
 

@@ -11,6 +11,7 @@
 pub mod answer;
 pub mod build;
 pub mod certificate;
+pub mod list;
 pub mod node;
 pub mod session;
 pub mod wide;

@@ -1,5 +1,6 @@
 //! Literals and the atoms they name.
 
+use std::fmt;
 use std::ops::Not;
 
 /// Atoms of one offset stand side by side, one for each of 64 streams.
@@ -77,5 +78,23 @@ impl Not for Literal {
     /// The opposite, written as 01 writes it.
     fn not(self) -> Literal {
         self.opposite()
+    }
+}
+
+impl fmt::Display for Atom {
+    /// A stream and its offset, `5@1`, or a constraint, `c3`.
+    fn fmt(&self, f: &mut fmt::Formatter<'_>) -> fmt::Result {
+        match self {
+            Atom::Stream { stream, offset } => write!(f, "{stream}@{offset}"),
+            Atom::Constraint(i) => write!(f, "c{i}"),
+        }
+    }
+}
+
+impl fmt::Display for Literal {
+    /// The atom, after 01's "!" if the literal is negated.
+    fn fmt(&self, f: &mut fmt::Formatter<'_>) -> fmt::Result {
+        let sign = if self.is_negated() { "!" } else { "" };
+        write!(f, "{sign}{}", self.atom())
     }
 }

@@ -1,0 +1,164 @@
+//! The examples at the top of the repository: the verdict is the one written
+//! beside them, and the nodes do what their pages say.
+
+#[path = "common/folders.rs"]
+mod folders;
+
+use folders::{all, named, top, Folder};
+use reference::build::random::Random;
+use reference::build::{search, BOOL, INT};
+use reference::certificate::check;
+use reference::node::{self, Node, Type};
+use reference::session::{begin, instant, Record as Session};
+use std::fs;
+use std::process::Command;
+
+#[test]
+fn every_verdict_is_as_written() {
+    for folder in all() {
+        let said = match check(&folder.node, &folder.certificate) {
+            Ok(accepted) => format!("{accepted}\n"),
+            Err(refusal) => format!("{refusal}\n"),
+        };
+        assert_eq!(said, folder.verdict, "{}", folder.name());
+    }
+}
+
+#[test]
+fn the_program_prints_every_verdict() {
+    for folder in all() {
+        let mut program = Command::new(env!("CARGO_BIN_EXE_reference-check"));
+        let output = program.current_dir(&folder.path).output().unwrap();
+        assert!(output.status.success());
+        assert_eq!(
+            output.stdout,
+            folder.verdict.as_bytes(),
+            "{}",
+            folder.name()
+        );
+    }
+}
+
+#[test]
+fn every_page_gives_the_verdict() {
+    let page_on_all = fs::read_to_string(top().join("README.md")).unwrap();
+    for folder in all() {
+        let (name, verdict) = (folder.name(), folder.verdict.trim_end());
+        let page = fs::read_to_string(folder.path.join("README.md")).unwrap();
+        assert!(page.ends_with(&format!("Verdict: `{verdict}`\n")), "{name}");
+        let row = page_on_all
+            .lines()
+            .find(|line| line.starts_with(&format!("| [{name}]")));
+        assert!(
+            row.is_some_and(|row| row.ends_with(&format!("| `{verdict}` |"))),
+            "{name}"
+        );
+    }
+}
+
+#[test]
+fn only_one_is_refused() {
+    let folders = all();
+    let refused = |folder: &&Folder| !folder.verdict.starts_with("accepted");
+    let names: Vec<&str> = folders.iter().filter(refused).map(Folder::name).collect();
+    assert_eq!(names, ["forged"]);
+    assert_eq!(folders.len(), 8);
+}
+
+/// Inputs for one instant.
+fn draw(random: &mut Random, node: &Node) -> Vec<i64> {
+    let types = node.inputs().iter().map(|i| node.types()[usize::from(*i)]);
+    let drawn = types.map(|own| match own {
+        Type::Bool => random.input(BOOL),
+        Type::Int => random.input(INT),
+    });
+    drawn.collect()
+}
+
+/// Demand 3, tried: where a certificate is accepted, the property is 1 at
+/// every answered instant.
+#[test]
+fn the_property_of_an_accepted_one_holds() {
+    let mut random = Random::new(20);
+    for folder in all().iter().filter(|folder| folder.name() != "forged") {
+        let node = node::read(&folder.node).unwrap();
+        for _ in 0..50 {
+            let mut session = Session::new();
+            begin(&mut session, &folder.node).unwrap();
+            for _ in 0..40 {
+                let mut values = vec![0; node.count()];
+                match instant(&mut session, &draw(&mut random, &node), &mut values) {
+                    Ok(()) => assert_eq!(values[usize::from(node.property())], 1),
+                    Err(refusal) => assert_eq!(refusal.number, 34),
+                }
+            }
+        }
+    }
+}
+
+/// The values of a stream of an example, one an instant.
+fn run<const N: usize>(name: &str, inputs: &[[i64; N]], stream: usize) -> Vec<i64> {
+    let folder = named(name);
+    let count = node::read(&folder.node).unwrap().count();
+    let mut session = Session::new();
+    begin(&mut session, &folder.node).unwrap();
+    let values = inputs.iter().map(|inputs| {
+        let mut values = vec![0; count];
+        instant(&mut session, inputs, &mut values).unwrap();
+        values[stream]
+    });
+    values.collect()
+}
+
+#[test]
+fn the_second_band_waits_for_the_first() {
+    let asked = [[0, 0], [0, 1], [1, 0], [1, 1]];
+    assert_eq!(run("two-bands", &asked, 3), [0, 1, 0, 0]);
+}
+
+#[test]
+fn minutes_are_booked_while_there_are_enough() {
+    let asked = [[60], [31], [30], [1], [-5], [5]];
+    assert_eq!(run("free-minutes", &asked, 6), [30, 30, 0, 0, 5, 0]);
+}
+
+#[test]
+fn a_grant_holds_until_release() {
+    let asked = [[0, 0], [1, 0], [0, 0], [0, 1], [0, 0], [1, 1], [1, 0]];
+    assert_eq!(run("grant", &asked, 5), [0, 1, 1, 0, 0, 0, 1]);
+}
+
+#[test]
+fn grants_take_turns() {
+    let asked = [[1, 1], [1, 1], [0, 1], [1, 0], [1, 0], [1, 1]];
+    assert_eq!(run("turns", &asked, 6), [1, 0, 0, 1, 0, 0]);
+    assert_eq!(run("turns", &asked, 7), [0, 1, 0, 0, 0, 1]);
+}
+
+#[test]
+fn a_pass_has_three_grants() {
+    let asked = [[1, 0], [1, 0], [0, 0], [1, 0], [1, 0], [1, 1], [1, 0]];
+    assert_eq!(run("quota", &asked, 9), [1, 1, 0, 1, 0, 1, 1]);
+    assert_eq!(run("quota", &asked, 12), [20, 40, 40, 60, 60, 20, 40]);
+}
+
+#[test]
+fn crews_hand_their_minutes_over() {
+    let given_up = [[0], [0], [1], [0], [0], [0]];
+    assert_eq!(run("handover", &given_up, 4), [40, 30, 40, 30, 30, 30]);
+    assert_eq!(run("handover", &given_up, 5), [30, 40, 30, 30, 30, 30]);
+}
+
+#[test]
+fn the_forged_property_fails() {
+    assert_eq!(run("forged", &[[0], [1], [1], [1]], 3), [1, 1, 0, 1]);
+}
+
+#[test]
+fn no_smaller_depth_is_found() {
+    for (name, depth) in [("handover", 2), ("relay", 8)] {
+        let node = named(name).node;
+        assert!(search::certificate(&node, depth).is_some(), "{name}");
+        assert_eq!(search::certificate(&node, depth - 1), None, "{name}");
+    }
+}

@@ -1,0 +1,204 @@
+#!/usr/bin/env python3
+"""Writes the folders of examples: node.bin, cert.bin, the verdict line and a page on each, and a page on all.
+
+    python3 tools/make_examples.py
+
+The verdict lines are written down here from the published rules and not computed by any checker.
+"""
+import struct
+import textwrap
+from dataclasses import dataclass
+
+import booking_proofs
+import example_proofs
+from certificate_files import Certificate
+from node_files import ROOT, node
+
+NODES = {**example_proofs.NODES, **booking_proofs.NODES, "forged": node(booking_proofs.LATE, 3)}
+TYPES = ("bool", "int")
+# by operator
+EQUATIONS = ("input", "{k}", "not {a}", "{a} and {b}", "{a} or {b}", "{a} same as {b}", "{a} + {b}", "{a} - {b}", "{k} * {a}",
+             "{a} at most {b}", "{a} equal to {b}", "if {c} then {a} else {b}", "{a} -> {b}", "{a} -> pre {b}")
+
+
+@dataclass(frozen=True)
+class Example:
+    """Streams are names and what they are, in record order. The texts are those of the folder's page."""
+    name: str
+    title: str
+    books: str
+    streams: tuple
+    prop: str
+    depth: str
+    argument: str
+    certificate: Certificate
+    verdict: str
+
+    def equations(self):
+        """The rows of a table, one a stream, from the records of the node file; a stream is called by its name."""
+        names = [name for name, _ in self.streams]
+        records = struct.iter_unpack("<BBHHHiI", NODES[self.name][:-16])
+        for i, ((op, kind, a, b, c, k, _), (name, meaning)) in enumerate(zip(records, self.streams, strict=True)):
+            constant = ("false", "true")[k] if (op, kind) == (1, 0) else k
+            equation = EQUATIONS[op].format(a=names[a], b=names[b], c=names[c], k=constant)
+            yield f"| {i} | {TYPES[kind]} | `{name}` = {equation} | {meaning} |"
+
+    def page(self):
+        table = ["| Stream | Type | Equation | What it is |", "|---|---|---|---|", *self.equations()]
+        parts = [f"# {self.title}", wrapped(self.books), "\n".join(table), wrapped(f"Property: {self.prop}"),
+                 wrapped(f"Depth: {self.depth}"), wrapped(f"Certificate: {self.argument}"), f"Verdict: `{self.verdict}`"]
+        return "\n\n".join(parts) + "\n"
+
+
+def wrapped(text):
+    return textwrap.fill(" ".join(text.split()), 125)
+
+
+EXAMPLES = (
+    Example(
+        "two-bands", "Two bands, one dish",
+        """Two stations ask for one dish, each on its own band. The first is granted whenever it asks, the second only if the
+        first doesn't ask.""",
+        (("first", "the first station asks, and is granted"), ("second", "the second station asks"),
+         ("quiet", "the first doesn't ask"), ("granted", "the second is granted"), ("both", "both are granted"),
+         ("fine", "the property")),
+        "never are both granted at one instant.",
+        "1. Nothing is remembered from one instant to the next, so that the step doesn't need what held before.",
+        """if both were granted, the first was (`first`) and the second was (`granted`); then the first was `quiet`, which is
+        not `first`. The step is the same twelve lines one offset on.""",
+        example_proofs.two_bands(), "accepted depth 1 base 12 step 12"),
+    Example(
+        "free-minutes", "Free minutes",
+        """A dish has 90 free minutes. At each instant some minutes are asked for, and booked if there are as many; if not,
+        nothing is booked. Asking for a negative number gives minutes back.""",
+        (("asked", "minutes asked for"), ("zero", "a constant"), ("start", "free minutes at first"),
+         ("free", "free minutes before"), ("enough", "the minutes asked for are there"),
+         ("rest", "free minutes if they are booked"), ("left", "free minutes after"), ("fine", "the property")),
+        "the free minutes are never negative.",
+        "1. That `left` was not negative one instant before is all that is needed now.",
+        """say `left` is negative. Where `enough` holds, `left` is `free - asked` and `asked` is at most `free`: the sum of
+        these constraints says 0 is at most -1. Where it doesn't, `left` is `free`, which is 90 at instant 0 and later the
+        `left` of one instant before, not negative by the property. One join on `enough` puts the two cases together.""",
+        booking_proofs.free_minutes(), "accepted depth 1 base 23 step 27"),
+    Example(
+        "grant", "A grant that holds until release",
+        """A station that asks is granted the dish and keeps it, asking or not, until the dish is released. A release wins over
+        a request at the same instant.""",
+        (("request", "the station asks"), ("release", "the dish is released"), ("no", "a constant"),
+         ("held", "granted one instant before"), ("wanted", "asked for now, or held"), ("grant", "the station has the dish"),
+         ("before", "it had ever asked, up to one instant before"), ("ever", "it has ever asked"),
+         ("idle", "it hasn't the dish"), ("fine", "the property")),
+        "the station never has the dish without ever having asked for it.",
+        """1. Either a grant is new, and there is a request now, or it was held; that a held one had a request is the property
+        one instant before.""",
+        """say there is a grant and never was a request. Then there is no release and no request now, so the grant was held. At
+        instant 0 `held` is false. Later there was a grant one instant before, thus by the property a request up to then, and
+        `ever` holds now.""",
+        example_proofs.grant(), "accepted depth 1 base 22 step 32"),
+    Example(
+        "turns", "Two stations take turns",
+        """One of two stations has the turn, at first the first one, and only that one is granted when it asks. After a grant
+        the turn passes to the other; without one it stays. Apart from that the scheduler notes who was granted last.""",
+        (("first asks", "the first station asks"), ("second asks", "the second station asks"), ("yes", "a constant"),
+         ("no", "a constant"), ("turn", "the first station has the turn"), ("other", "the second has it"),
+         ("first granted", "the first is granted"), ("second granted", "the second is granted"),
+         ("granted", "there is a grant"), ("next", "the first has the turn after this"),
+         ("open", "the last grant was not the first station's"),
+         ("cleared", "it is the second's now, or `open` held before"), ("noted", "`open` after this"),
+         ("fine", "the property")),
+        """the first station has the turn exactly if the last grant was not its own, or there was none yet. So no station is
+        granted twice in a row.""",
+        "1. The turn and the note change together, so if they agree at one instant they agree at the next.",
+        """say `turn` and `open` differ. Then `next` and `noted` differed one instant before, while `turn` and `open` agreed.
+        Had the first station been granted, neither `next` nor `noted` would hold; had the second been, both would. So nobody
+        was, and `next` is `turn` and `noted` is `open`: these agree.""",
+        booking_proofs.turns(), "accepted depth 1 base 10 step 62"),
+    Example(
+        "quota", "A quota of grants per pass",
+        """In one pass of a satellite a station may be granted the dish three times, 20 minutes each. Grants are counted, and a
+        new pass begins the count anew. What is to be kept is said in minutes.""",
+        (("asks", "the station asks"), ("pass", "a new pass begins"), ("zero", "a constant"), ("one", "a constant"),
+         ("quota", "grants a pass"),
+         ("before", "grants counted one instant before"), ("so far", "grants of this pass up to now"),
+         ("full", "the quota is used up"), ("room", "the quota is not used up"), ("granted", "the station is granted"),
+         ("more", "one grant more"),
+         ("count", "grants of this pass, with this one"), ("minutes", "their minutes"),
+         ("hour", "the minutes that three grants take"), ("fine", "the property")),
+        "the minutes granted in a pass are at most 60.",
+        "1. Either the count changes now, and the quota limits it, or it is the one of an instant before.",
+        """say there are over 60 `minutes`, which are 20 times `count`. With a grant, `so far` is under 3 and `count` is one
+        more. Without one and in a new pass, `count` is 0. Else it is `before`: 0 at instant 0, and later the `count` of one
+        instant before, 20 times which is at most 60 by the property. Constraints on counts are taken 20 times in the sums.""",
+        booking_proofs.quota(), "accepted depth 1 base 46 step 52"),
+    Example(
+        "handover", "Two crews hand over",
+        """An early and a late crew share a dish and hand their minutes over to each other at every instant. The early crew may
+        give its minutes up; it then hands over 30, those of a short booking.""",
+        (("gives up", "the early crew gives its minutes up"), ("long", "minutes of a long booking"),
+         ("short", "minutes of a short one"), ("limit", "the most minutes allowed"),
+         ("early", "minutes of the early crew"), ("late", "minutes of the late crew"),
+         ("handed", "what the early crew hands over"), ("fine", "the property")),
+        "the early crew never has more than 45 minutes.",
+        """2. The property says nothing of the late crew, whose minutes are the early crew's at the next instant: at depth 1 it
+        could have 100. Two instants on they come from the early crew itself.""",
+        """`early` is 40 at instant 0, and at instant 1 what `late` was at first, 30. For the step, `early` at offset 2 is
+        `late` at offset 1 and `handed` at offset 0. That is 30 or what `early` was at offset 0, at most 45 by the property. The
+        sum of the constraints on this way says 0 is at most -1, in both cases.""",
+        booking_proofs.handover(), "accepted depth 2 base 23 step 29"),
+    Example(
+        "relay", "A licence handed along eight stations",
+        """Eight stations hand a licence along: at each instant each takes over what the one before it had, and the first what
+        the eighth had. At instant 0 all have a valid one.""",
+        (("valid", "a constant"), *[(f"station {i}", f"station {i} has a valid licence") for i in range(1, 8)],
+         ("station 8", "so has station 8, the property")),
+        "station 8 always has a valid licence.",
+        """8. An invalid licence at station 1 is not seen at station 8 before seven instants have passed, so that seven valid
+        ones in a row at station 8 don't show that the eighth is.""",
+        """at each instant below 8, what station 8 has is what some station had at instant 0. For the step, what it has at
+        offset 8 is what station 7 had at 7, and so on down to station 1 at 1, which is what station 8 had at offset 0.""",
+        example_proofs.ring(1, 8), "accepted depth 8 base 75 step 19"),
+    Example(
+        "forged", "A forged certificate",
+        """A licence office says at each instant whether a licence is valid, and its word takes two instants to arrive at the
+        booking desk. Until then the desk takes the licence to be valid.""",
+        (("valid", "a constant"), ("said", "the licence is valid, says the office"),
+         ("under way", "what it said one instant before"), ("known", "what the desk knows, the property")),
+        "the desk always has a valid licence. This is false: if `said` is 0 at instant 0, `known` is 0 at instant 2.",
+        "1, but no depth would do.",
+        """the base is sound: `known` holds at instant 0. The step's line 6 joins lines 3 and 2, `{!valid}` and `{valid}`, and
+        has no literals left, which would end the step. Both are lines of the base, where line 3 was won from "`known` fails at
+        instant 0". The step may not say that: its offset 0 is any instant. A join takes lower lines of its own part, so line 6
+        is refused with 19. A checker that looks up cited lines without asking for their part would accept a false property.""",
+        booking_proofs.base_for_step(), "refused 19 line 6"),
+)
+
+PAGE = """# Examples
+
+Nodes of a booking scheduler. Each folder has a node file, a certificate file, the one line `verdict` that a checker says of the
+two, and a page that gives the equations and the argument. `tools/make_examples.py` writes them all.
+
+| Folder | What it is | Verdict |
+|---|---|---|
+{rows}
+
+From `rust/reference`, a listing of both files and the verdict of the second checker:
+
+    cargo run --offline --quiet --bin reference-list ../../examples/quota/node.bin ../../examples/quota/cert.bin
+"""
+
+
+def main():
+    folder = ROOT / "examples"
+    for example in EXAMPLES:
+        files = folder / example.name
+        files.mkdir(parents=True, exist_ok=True)
+        (files / "node.bin").write_bytes(NODES[example.name])
+        (files / "cert.bin").write_bytes(example.certificate.file())
+        (files / "verdict").write_text(f"{example.verdict}\n")
+        (files / "README.md").write_text(example.page())
+    rows = [f"| [{e.name}]({e.name}/README.md) | {e.title} | `{e.verdict}` |" for e in EXAMPLES]
+    (folder / "README.md").write_text(PAGE.format(rows="\n".join(rows)))
+    print(f"{len(EXAMPLES)} examples")
+
+
+main()
