@@ -1,0 +1,29 @@
+-- `capi::refused` meets its contract.
+-- Assumes nothing.
+use borrow.Author.Needs.{needs}
+use Rattle.capi.proofs.told.refused.Statement.{statement}
+use Rattle.capi.proofs.told.refused.Tie as tie
+
+number-requires : tie.Need-number-requires
+number-requires c κs = search needs
+
+place-number-requires : tie.Need-place-number-requires
+place-number-requires c κs = search needs
+
+place-index-requires : tie.Need-place-index-requires
+place-index-requires c κs = search needs
+
+returns : tie.Need-returns
+returns c =
+    λ i. record {
+      number = c .before .before .number .ensures i;
+      place = c .before .place-number .ensures i;
+      index = c .place-index .ensures i;
+      first = 0;
+      second = 0;
+      third = 0;
+    }
+
+pub refused-spec : {M : Type 1} → statement M
+refused-spec =
+    tie.close (tie.spec number-requires place-number-requires place-index-requires returns)

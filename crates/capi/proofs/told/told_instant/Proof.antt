@@ -1,0 +1,38 @@
+-- `capi::told_instant` meets its contract.
+-- Assumes nothing.
+use mathlib.Core.Path.{sym, _∙_, ap}
+use Rattle.answers.specs.declared.InstantVerdict.{InstantVerdict}
+use Rattle.answers.specs.Answer.{instantAnswer}
+use Rattle.capi.specs.declared.told.Told.{Told}
+use Rattle.capi.specs.Answers.{toldInstant}
+use borrow.Author.Needs.{needs}
+use Rattle.capi.proofs.told.told_instant.Statement.{statement}
+use Rattle.capi.proofs.told.told_instant.Tie as tie
+
+enum-told : tie.Need-enum-told
+enum-told c = search needs
+
+accepted-requires : tie.Need-accepted-requires
+accepted-requires c κs = search needs
+
+enum-known-verdict : tie.Need-enum-known-verdict
+enum-known-verdict c = search needs
+
+refused-requires : tie.Need-refused-requires
+refused-requires c κs = search needs
+
+abbrev told-of : InstantVerdict → Told
+told-of v = toldInstant (instantAnswer v)
+
+returns : tie.Need-returns
+unfolding toldInstant
+returns c = c .accepted .ensures ∙ sym (ap told-of (c .before .enum-told .given .1))
+
+returns-2 : tie.Need-returns-2
+unfolding toldInstant
+returns-2 c = c .refused .ensures ∙ sym (ap told-of (c .before .before .verdict .given .1))
+
+pub told-instant-spec : {M : Type 1} → statement M
+told-instant-spec =
+    tie.close
+    (tie.spec enum-told accepted-requires enum-known-verdict refused-requires returns returns-2)

@@ -1,0 +1,48 @@
+-- An answer in numbers. 0 stands for accepted, and for no place; a refusal has the paper's number.
+use Prim.Native.Nat.{ℕ}
+use Rattle.answers.specs.declared.Place.{Place}
+use Rattle.answers.specs.declared.Place.the-variants.{File, Record, Constraint, Line, Base, Step}
+use Rattle.answers.specs.Answer.{Answer, accepted, refused, NodeValues, CertificateValues}
+use Rattle.capi.specs.declared.told.Told.{Told}
+
+abbrev pub placeNumber : Place → ℕ
+placeNumber File = 1
+placeNumber (Record i) = 2
+placeNumber (Constraint i) = 3
+placeNumber (Line i) = 4
+placeNumber Base = 5
+placeNumber Step = 6
+
+-- which record, constraint or line
+abbrev pub placeIndex : Place → ℕ
+placeIndex File = 0
+placeIndex (Record i) = i
+placeIndex (Constraint i) = i
+placeIndex (Line i) = i
+placeIndex Base = 0
+placeIndex Step = 0
+
+abbrev pub toldAccepted : (first second third : ℕ) → Told
+toldAccepted first second third =
+    record { number = 0; place = 0; index = 0; first = first; second = second; third = third }
+
+abbrev pub toldRefused : (number : ℕ) → Place → Told
+toldRefused number place =
+    record { number = number; place = placeNumber place; index = placeIndex place; first = 0; second = 0; third = 0 }
+
+-- an answer, where `values` tells what an accepted one carries
+abbrev pub toldOf : {A : Type 0} → (values : A → Told) → Answer A → Told
+toldOf values (accepted a) = values a
+toldOf values (refused number place) = toldRefused number place
+
+-- a node file's: streams and property
+unfoldable pub toldNode : Answer NodeValues → Told
+toldNode answer = toldOf (λ v. toldAccepted (v .streams) (v .property) 0) answer
+
+-- a certificate's: depth and both line counts
+unfoldable pub toldCertificate : Answer CertificateValues → Told
+toldCertificate answer = toldOf (λ v. toldAccepted (v .depth) (v .base) (v .step)) answer
+
+-- an instant's call's: nothing
+unfoldable pub toldInstant : Answer (Unit {0}) → Told
+toldInstant answer = toldOf (λ _. toldAccepted 0 0 0) answer

@@ -1,0 +1,99 @@
+// Answers in numbers.
+use answers::CertificateVerdict;
+use answers::InstantVerdict;
+use answers::NodeVerdict;
+use answers::Place;
+use answers::Rule;
+ghost use mathlib.Core.Path.{_≡_};
+ghost use Rattle.answers.specs.Answer.{numberOf, nodeAnswer, certificateAnswer, instantAnswer};
+ghost use Rattle.capi.specs.Answers.{placeNumber, placeIndex, toldAccepted, toldRefused, toldNode, toldCertificate, toldInstant};
+
+// An answer in numbers; specs/Answers.antt gives each.
+#[repr(C)]
+pub struct Told {
+    pub number: usize,
+    pub place: usize,
+    pub index: usize,
+    pub first: usize,
+    pub second: usize,
+    pub third: usize,
+}
+
+fn place_number(place: Place) -> usize
+    ensures { λ r. ⌜ r ≡ placeNumber place ⌝ }
+{
+    match place {
+        Place::File => 1,
+        Place::Record(_) => 2,
+        Place::Constraint(_) => 3,
+        Place::Line(_) => 4,
+        Place::Base => 5,
+        Place::Step => 6,
+    }
+}
+
+fn place_index(place: Place) -> usize
+    ensures { λ r. ⌜ r ≡ placeIndex place ⌝ }
+{
+    match place {
+        Place::File => 0,
+        Place::Record(i) => i,
+        Place::Constraint(i) => i,
+        Place::Line(i) => i,
+        Place::Base => 0,
+        Place::Step => 0,
+    }
+}
+
+fn accepted(first: usize, second: usize, third: usize) -> Told
+    ensures { λ r. ⌜ r ≡ toldAccepted first second third ⌝ }
+{
+    Told {
+        number: 0,
+        place: 0,
+        index: 0,
+        first,
+        second,
+        third,
+    }
+}
+
+fn refused(rule: Rule, place: Place) -> Told
+    ensures { λ r. ⌜ r ≡ toldRefused (numberOf rule) place ⌝ }
+{
+    Told {
+        number: answers::number(rule),
+        place: place_number(place),
+        index: place_index(place),
+        first: 0,
+        second: 0,
+        third: 0,
+    }
+}
+
+pub fn told_node(verdict: NodeVerdict) -> Told
+    ensures { λ r. ⌜ r ≡ toldNode (nodeAnswer verdict) ⌝ }
+{
+    match verdict {
+        NodeVerdict::Accepted { streams, property } => accepted(streams, property, 0),
+        NodeVerdict::Refused(rule, place) => refused(rule, place),
+    }
+}
+
+pub fn told_certificate(verdict: CertificateVerdict) -> Told
+    ensures { λ r. ⌜ r ≡ toldCertificate (certificateAnswer verdict) ⌝ }
+{
+    match verdict {
+        CertificateVerdict::Accepted { depth, base, step } => accepted(depth, base, step),
+        CertificateVerdict::Refused(rule, place) => refused(rule, place),
+    }
+}
+
+pub fn told_instant(verdict: InstantVerdict) -> Told
+    ensures { λ r. ⌜ r ≡ toldInstant (instantAnswer verdict) ⌝ }
+{
+    match verdict {
+        InstantVerdict::Answered => accepted(0, 0, 0),
+        InstantVerdict::Refused(rule, place) => refused(rule, place),
+    }
+}
