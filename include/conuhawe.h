@@ -1,0 +1,118 @@
+/* Conuhawe: node files, sessions and induction certificates for Lustre booking nodes.
+ *
+ * Every function here is proved to meet its contract (crates/capi/src), which states the whole outcome for any arguments that this
+ * header allows. Link with target/staticlib/libcapi.a, made by `rt staticlib capi`, on x86-64 Linux.
+ *
+ * What the caller owes, of every call:
+ * - A pointer is not null, also where the length beside it is 0, and is aligned as its type asks.
+ * - The bytes or numbers that it points to, as many as the length says, are initialised and stay as they are during the call.
+ * - What a call may write (the record, the slice of values) overlaps nothing else that is given to the same call.
+ *
+ * What a call does with it: it reads and writes nothing but what it is given and its own stack, calls nothing of the C library but
+ * memcpy and memset, and always returns. The caller owns all memory; no call keeps a pointer. Calls that are given different memory
+ * may run at the same time in different threads, and any number of calls may read the same files and inputs at once. One record is
+ * lent to one call at a time.
+ */
+#ifndef CONUHAWE_H
+#define CONUHAWE_H
+
+#include <stddef.h>
+#include <stdint.h>
+
+#ifdef __cplusplus
+extern "C" {
+#endif
+
+/* Where a refusal is met: an answer's place. An answer that is not a refusal has place CONUHAWE_NO_PLACE. */
+enum {
+    CONUHAWE_NO_PLACE = 0,
+    CONUHAWE_FILE = 1,       /* the file; also input count, slice length and a record that holds no node */
+    CONUHAWE_RECORD = 2,     /* record `index` of the node file, or the stream of that number */
+    CONUHAWE_CONSTRAINT = 3, /* constraint `index` of the certificate */
+    CONUHAWE_LINE = 4,       /* line `index`, counted through base and then on through step */
+    CONUHAWE_BASE = 5,       /* the base part */
+    CONUHAWE_STEP = 6        /* the step part */
+};
+
+/* An answer's number: CONUHAWE_ACCEPTED, or the first rule that is broken. */
+enum {
+    CONUHAWE_ACCEPTED = 0,
+
+    /* node file; places: file for 1 to 4, record for 5 to 8 */
+    CONUHAWE_NODE_LENGTH = 1,
+    CONUHAWE_NODE_FIXED_BYTES = 2,
+    CONUHAWE_NODE_COUNTS = 3,
+    CONUHAWE_NODE_DISTANCE = 4,
+    CONUHAWE_RECORD_SHAPE = 5,
+    CONUHAWE_RECORD_OPERANDS = 6,
+    CONUHAWE_RECORD_TYPES = 7,
+    CONUHAWE_PROPERTY_TYPE = 8,
+
+    /* certificate; places: file for 11 to 14, constraint for 15, line for 16 to 20, base or step for 21 */
+    CONUHAWE_CERTIFICATE_LENGTH = 11,
+    CONUHAWE_CERTIFICATE_FIXED_BYTES = 12,
+    CONUHAWE_CERTIFICATE_COUNTS = 13,
+    CONUHAWE_CERTIFICATE_DISTANCE = 14,
+    CONUHAWE_CONSTRAINT_SHAPE = 15,
+    CONUHAWE_LINE_SHAPE = 16,
+    CONUHAWE_EQUATION_LINE = 17,
+    CONUHAWE_PROPERTY_LINE = 18,
+    CONUHAWE_JOIN_LINE = 19,
+    CONUHAWE_ARITHMETIC_LINE = 20,
+    CONUHAWE_NO_EMPTY_LINE = 21,
+
+    /* instant's call; places: file for 30 to 32, record for 33 and 34 */
+    CONUHAWE_NO_NODE = 30,
+    CONUHAWE_INPUT_COUNT = 31,
+    CONUHAWE_SLICE_LENGTH = 32,
+    CONUHAWE_BOOL_INPUT = 33,
+    CONUHAWE_OUTSIDE_RANGE = 34
+};
+
+/* An answer. Of a refusal all values are 0; of an accepted answer place and index are 0. */
+typedef struct conuhawe_answer {
+    size_t number;   /* 0 where accepted, else the rule's number */
+    size_t place;    /* CONUHAWE_FILE .. CONUHAWE_STEP, 0 where accepted */
+    size_t index;    /* which record, constraint or line; of other places 0 */
+    size_t value[3]; /* node: streams, property, 0; certificate: depth, base lines, step lines; instant: 0, 0, 0 */
+} conuhawe_answer;
+
+/* A session record: it is the caller's, and a call changes it only where it is accepted. A record of any bytes is taken (one that
+ * holds no node is refused by conuhawe_instant with 30), so a program may copy it, store it and lend it again; a zeroed one is a
+ * good start. The fields are for the library. There is no padding. */
+typedef struct conuhawe_session {
+    size_t length;      /* bytes of the node file that are used */
+    int64_t last[64];   /* the values of the last answered instant */
+    uint8_t file[1040]; /* the node file without its note */
+    uint8_t started;    /* 0 before instant 0; any other byte counts as past it */
+    uint8_t spare[7];   /* not read; 0 after an accepted call */
+} conuhawe_session;
+
+/* Checks a node file by rules 1 to 8. Accepted: value[0] is the stream count and value[1] the property stream. */
+conuhawe_answer conuhawe_read(const uint8_t *node, size_t node_length);
+
+/* Checks a certificate for a node file: rules 1 to 8 for the node, then 11 to 21. Accepted: value[0] is the depth, value[1] and
+ * value[2] are the trailer's counts of base lines and step lines, and the node's property holds at every instant on all inputs. */
+conuhawe_answer conuhawe_check(const uint8_t *node, size_t node_length, const uint8_t *certificate, size_t certificate_length);
+
+/* Begins a session on a node file, checked as by conuhawe_read and answered the same. Accepted: the record is set to the node, before
+ * instant 0. Refused: every byte of the record is as it was. */
+conuhawe_answer conuhawe_begin(conuhawe_session *session, const uint8_t *node, size_t node_length);
+
+/* Runs the next instant. `inputs` has one number for each input, in record order (bool: 0 or 1); `values` has room for one number a
+ * stream. Accepted: values[i] is the value of stream i, and the record is moved on. Refused: every byte of the record, and every
+ * value, is as it was. */
+conuhawe_answer conuhawe_instant(conuhawe_session *session, const int64_t *inputs, size_t input_count, int64_t *values,
+                                 size_t value_count);
+
+/* How many leading bytes of a node file are its note; 0 where rules 1 to 8 refuse the file. Never more than its length. */
+size_t conuhawe_node_note(const uint8_t *node, size_t node_length);
+
+/* How many leading bytes of a certificate are its note; 0 where rules 11 to 14 refuse the file. Never more than its length. */
+size_t conuhawe_certificate_note(const uint8_t *certificate, size_t certificate_length);
+
+#ifdef __cplusplus
+}
+#endif
+
+#endif

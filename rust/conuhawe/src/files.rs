@@ -1,0 +1,45 @@
+//! The calls on files.
+//!
+//! Each `unsafe` block lends a slice as its pointer and its length: the
+//! pointer is not null, and the call reads that many elements and keeps none.
+
+use crate::sys;
+use crate::{Accepted, Node, Refusal};
+
+/// Checks a node file by rules 1 to 8.
+pub fn read(node: &[u8]) -> Result<Node, Refusal> {
+    // SAFETY: as above.
+    unsafe { sys::conuhawe_read(node.as_ptr(), node.len()) }.node()
+}
+
+/// Checks a certificate for a node file: rules 1 to 8 for the node, then 11
+/// to 21. Where it is accepted, the node's property holds at every instant,
+/// whatever the inputs.
+pub fn check(node: &[u8], certificate: &[u8]) -> Result<Accepted, Refusal> {
+    // SAFETY: as above.
+    unsafe {
+        sys::conuhawe_check(
+            node.as_ptr(),
+            node.len(),
+            certificate.as_ptr(),
+            certificate.len(),
+        )
+    }
+    .certificate()
+}
+
+/// The note of a node file: the bytes before its first record. Empty where
+/// rules 1 to 8 refuse the file.
+pub fn node_note(node: &[u8]) -> &[u8] {
+    // SAFETY: as above.
+    let length = unsafe { sys::conuhawe_node_note(node.as_ptr(), node.len()) };
+    &node[..length]
+}
+
+/// The note of a certificate: the bytes before its constraints and lines.
+/// Empty where rules 11 to 14 refuse the file.
+pub fn certificate_note(certificate: &[u8]) -> &[u8] {
+    // SAFETY: as above.
+    let length = unsafe { sys::conuhawe_certificate_note(certificate.as_ptr(), certificate.len()) };
+    &certificate[..length]
+}

@@ -1,0 +1,34 @@
+//! Node files, sessions and induction certificates for Lustre booking nodes:
+//! safe calls of the functions that the repository's crate `capi` proves.
+//!
+//! Each function answers for any arguments, and what it answers is proved:
+//! the contracts stand in `crates/capi/src`, the meaning of numbers and places
+//! in `include/conuhawe.h`. What is not proved is this wrapper, which only
+//! passes slices on and reads answers.
+//!
+//! ```no_run
+//! # fn main() -> Result<(), Box<dyn std::error::Error>> {
+//! let node = std::fs::read("node.bin")?;
+//! let certificate = std::fs::read("cert.bin")?;
+//! let accepted = conuhawe::check(&node, &certificate)?;
+//! println!("{accepted}"); // accepted depth 1 base 12 step 12
+//!
+//! let mut session = conuhawe::Session::begin(&node)?;
+//! let mut values = [0; 6];
+//! session.instant(&[1, 1], &mut values)?;
+//! assert_eq!(values, [1, 1, 0, 0, 0, 1]);
+//! # Ok(())
+//! # }
+//! ```
+
+#![warn(missing_docs)]
+#![deny(unsafe_op_in_unsafe_fn)]
+
+mod answer;
+mod files;
+mod session;
+mod sys;
+
+pub use answer::{Accepted, Node, Place, Refusal};
+pub use files::{certificate_note, check, node_note, read};
+pub use session::Session;

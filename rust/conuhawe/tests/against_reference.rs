@@ -1,0 +1,121 @@
+//! The proved library and the second implementation give the same answers on
+//! damaged pairs and on sessions.
+
+mod common;
+
+use common::two_bands;
+use conuhawe::Session;
+use reference::build::random::{self, damage, Random};
+use reference::build::{search, BOOL, INT};
+use reference::node::{self, Type};
+use reference::{certificate, session};
+use std::collections::BTreeSet;
+use std::fmt::Display;
+
+type Pair = (Vec<u8>, Vec<u8>);
+
+/// An answer as its line: equal lines are equal answers.
+fn line<A: Display, R: Display>(answer: Result<A, R>) -> String {
+    answer.map_or_else(|refusal| refusal.to_string(), |a| a.to_string())
+}
+
+/// The two bands, and random nodes that have a certificate.
+fn seeds(random: &mut Random) -> Vec<Pair> {
+    let mut pairs = vec![two_bands()];
+    for i in 0..300 {
+        let node = random::node(random, 3 + i % 9).bytes();
+        let depth = [1, 1, 2, 3][random.below(4)];
+        if let Some(found) = search::certificate(&node, depth) {
+            pairs.push((node, found.bytes()));
+        }
+    }
+    assert!(pairs.len() > 50);
+    pairs
+}
+
+/// The answer that both give.
+fn agreed((node, certificate): &Pair) -> String {
+    let answer = line(conuhawe::check(node, certificate));
+    assert_eq!(answer, line(certificate::check(node, certificate)));
+    assert_eq!(conuhawe::node_note(node), node::note(node));
+    assert_eq!(
+        conuhawe::certificate_note(certificate),
+        certificate::note(certificate)
+    );
+    answer
+}
+
+#[test]
+fn whole_pairs() {
+    let mut random = Random::new(71);
+    for pair in seeds(&mut random) {
+        assert!(agreed(&pair).starts_with("accepted "));
+    }
+}
+
+#[test]
+fn damaged_pairs() {
+    let mut random = Random::new(72);
+    let pairs = seeds(&mut random);
+    let mut met = BTreeSet::new();
+    for _ in 0..60_000 {
+        let (mut node, mut certificate) = pairs[random.below(pairs.len())].clone();
+        let which = random.below(8);
+        if which < 2 {
+            damage(&mut random, &mut node);
+        }
+        if which > 0 {
+            damage(&mut random, &mut certificate);
+        }
+        let answer = agreed(&(node, certificate));
+        met.extend(answer.split(' ').nth(1).map(str::to_owned));
+    }
+    for number in (1..=8).chain(11..=21) {
+        assert!(met.contains(&number.to_string()), "{number} of {met:?}");
+    }
+}
+
+/// Inputs for one instant, now and then one too many or out of its type.
+fn inputs(random: &mut Random, node: &node::Node) -> Vec<i64> {
+    let types = node.inputs().iter().map(|i| node.types()[usize::from(*i)]);
+    let mut drawn: Vec<i64> = types
+        .map(|own| match own {
+            Type::Bool if random.below(40) == 0 => 2,
+            Type::Bool => random.input(BOOL),
+            Type::Int => random.input(INT),
+        })
+        .collect();
+    if random.below(40) == 0 {
+        drawn.push(0);
+    }
+    drawn
+}
+
+#[test]
+fn sessions() {
+    let mut random = Random::new(73);
+    let mut met = BTreeSet::new();
+    for i in 0..4_000 {
+        let file = random::node(&mut random, 3 + i % 62).bytes();
+        let node = node::read(&file).unwrap();
+        let mut theirs = session::Record::new();
+        session::begin(&mut theirs, &file).unwrap();
+        let mut ours = Session::begin(&file).unwrap();
+        for _ in 0..12 {
+            let inputs = inputs(&mut random, &node);
+            let room = node.count() + usize::from(random.below(40) == 0);
+            let (mut expected, mut values) = (vec![-7; room], vec![-7; room]);
+            let answer = session::instant(&mut theirs, &inputs, &mut expected);
+            let answer = answer.map_or_else(|refusal| refusal.to_string(), |()| String::new());
+            met.extend(answer.split(' ').nth(1).map(str::to_owned));
+            let own = ours.instant(&inputs, &mut values);
+            assert_eq!(
+                own.map_or_else(|refusal| refusal.to_string(), |()| String::new()),
+                answer
+            );
+            assert_eq!(values, expected);
+            assert_eq!(ours.started(), theirs.answered);
+        }
+    }
+    assert_eq!(Vec::from_iter(met), ["31", "32", "33", "34"]);
+}

@@ -1,0 +1,95 @@
+//! 01's "Two bands, one dish": the pair of `examples/two-bands`, its notes and
+//! what refuses it.
+
+mod common;
+
+use common::{two_bands, with_note};
+use conuhawe::{certificate_note, check, node_note, read, Accepted, Node, Place, Refusal};
+
+const ACCEPTED: Accepted = Accepted {
+    depth: 1,
+    base: 12,
+    step: 12,
+};
+
+fn refused<T>(number: usize, place: Place) -> Result<T, Refusal> {
+    Err(Refusal { number, place })
+}
+
+#[test]
+fn the_pair_is_accepted() {
+    let (node, certificate) = two_bands();
+    let expected = Node {
+        streams: 6,
+        property: 5,
+    };
+    assert_eq!(read(&node), Ok(expected));
+    assert_eq!(check(&node, &certificate), Ok(ACCEPTED));
+    assert_eq!(ACCEPTED.to_string(), "accepted depth 1 base 12 step 12");
+}
+
+#[test]
+fn empty_files_are_refused_by_their_length() {
+    let (node, certificate) = two_bands();
+    assert_eq!(read(&[]), refused(1, Place::File));
+    assert_eq!(check(&[], &certificate), refused(1, Place::File));
+    assert_eq!(check(&node, &[]), refused(11, Place::File));
+}
+
+#[test]
+fn a_refusal_names_the_record() {
+    let (mut node, certificate) = two_bands();
+    node[16 * 3] = 14;
+    let expected = Refusal {
+        number: 5,
+        place: Place::Record(3),
+    };
+    assert_eq!(read(&node), Err(expected));
+    assert_eq!(check(&node, &certificate), Err(expected));
+    assert_eq!(expected.to_string(), "refused 5 record 3");
+}
+
+#[test]
+fn a_refusal_names_the_line() {
+    let (node, mut certificate) = two_bands();
+    // Line 2 joins lines 0 and 1; now it joins line 0 with itself.
+    certificate[80 * 2 + 4] = 0;
+    assert_eq!(check(&node, &certificate), refused(19, Place::Line(2)));
+}
+
+#[test]
+fn a_refusal_names_the_part() {
+    let (node, certificate) = two_bands();
+    // The lines that close a part: the last of each.
+    for (line, place) in [(11, Place::Base), (23, Place::Step)] {
+        let mut certificate = certificate.clone();
+        // It is no longer empty: a join may have more literals.
+        certificate[80 * line + 1] = 1;
+        certificate[80 * line + 8] = 10;
+        assert_eq!(check(&node, &certificate), refused(21, place));
+    }
+}
+
+#[test]
+fn notes_are_the_leading_parts() {
+    let (node, certificate) = two_bands();
+    assert_eq!(node_note(&node), b"");
+    assert_eq!(certificate_note(&certificate), b"");
+
+    let node = with_note(b"two bands", &node);
+    let certificate = with_note(b"by induction", &certificate);
+    assert_eq!(node_note(&node), b"two bands");
+    assert_eq!(certificate_note(&certificate), b"by induction");
+    assert_eq!(check(&node, &certificate), Ok(ACCEPTED));
+}
+
+#[test]
+fn a_refused_file_has_no_note() {
+    let (node, certificate) = two_bands();
+    let mut node = with_note(b"two bands", &node);
+    let mut certificate = with_note(b"by induction", &certificate);
+    *node.last_mut().unwrap() = 1;
+    certificate.pop();
+    assert_eq!(node_note(&node), b"");
+    assert_eq!(certificate_note(&certificate), b"");
+}

@@ -1,0 +1,148 @@
+/* Calls every function of include/conuhawe.h. Arguments: a node file and a certificate, examples/two-bands. */
+#include "conuhawe.h"
+
+#include <assert.h>
+#include <stdio.h>
+#include <stdlib.h>
+#include <string.h>
+
+static_assert(sizeof(conuhawe_answer) == 48, "an answer is six numbers");
+static_assert(sizeof(conuhawe_session) == 1568, "a record has no padding");
+static_assert(offsetof(conuhawe_session, spare) == 1561, "a record has no padding");
+
+typedef struct {
+    uint8_t bytes[65536];
+    size_t length;
+} file;
+
+static file read_file(const char *path)
+{
+    static file f;
+    FILE *in = fopen(path, "rb");
+    if (!in) {
+        perror(path);
+        exit(1);
+    }
+    f.length = fread(f.bytes, 1, sizeof f.bytes, in);
+    fclose(in);
+    return f;
+}
+
+/* A file in a block of just its size, so that a read past it is seen by valgrind. */
+static uint8_t *block(file f, size_t note)
+{
+    uint8_t *b = malloc(note + f.length);
+    if (!b)
+        exit(1);
+    memset(b, 'n', note);
+    memcpy(b + note, f.bytes, f.length);
+    return b;
+}
+
+static int failures;
+
+static void expect(const char *what, conuhawe_answer got, size_t number, size_t place, size_t index, size_t a, size_t b, size_t c)
+{
+    conuhawe_answer want = {number, place, index, {a, b, c}};
+    if (memcmp(&got, &want, sizeof got) == 0)
+        return;
+    failures++;
+    printf("%s: number %zu place %zu index %zu values %zu %zu %zu\n", what, got.number, got.place, got.index, got.value[0],
+           got.value[1], got.value[2]);
+}
+
+static void expect_true(const char *what, int ok)
+{
+    if (ok)
+        return;
+    failures++;
+    printf("%s\n", what);
+}
+
+static void check_files(file node, file cert)
+{
+    uint8_t *n = block(node, 0), *c = block(cert, 0);
+    expect("read", conuhawe_read(n, node.length), 0, 0, 0, 6, 5, 0);
+    expect("check", conuhawe_check(n, node.length, c, cert.length), 0, 0, 0, 1, 12, 12);
+    expect("no node", conuhawe_check(n, 0, c, cert.length), CONUHAWE_NODE_LENGTH, CONUHAWE_FILE, 0, 0, 0, 0);
+    expect("no certificate", conuhawe_check(n, node.length, c, 0), CONUHAWE_CERTIFICATE_LENGTH, CONUHAWE_FILE, 0, 0, 0, 0);
+    n[16 * 3] = 14;
+    expect("operator 14", conuhawe_read(n, node.length), CONUHAWE_RECORD_SHAPE, CONUHAWE_RECORD, 3, 0, 0, 0);
+    n[16 * 3] = 3;
+    /* line 2, a join of lines 0 and 1, cites line 0 twice */
+    c[80 * 2 + 4] = 0;
+    expect("join", conuhawe_check(n, node.length, c, cert.length), CONUHAWE_JOIN_LINE, CONUHAWE_LINE, 2, 0, 0, 0);
+    free(n);
+    free(c);
+}
+
+static void check_notes(file node, file cert)
+{
+    uint8_t *n = block(node, 5), *c = block(cert, 7);
+    expect_true("node's note", conuhawe_node_note(n, 5 + node.length) == 5);
+    expect_true("certificate's note", conuhawe_certificate_note(c, 7 + cert.length) == 7);
+    expect_true("no note", conuhawe_node_note(n + 5, node.length) == 0);
+    expect_true("a refused file's note", conuhawe_certificate_note(c, 7) == 0);
+    expect("check with notes", conuhawe_check(n, 5 + node.length, c, 7 + cert.length), 0, 0, 0, 1, 12, 12);
+    free(n);
+    free(c);
+}
+
+/* A call that is refused leaves the record and the values. */
+static void refuses(const char *what, conuhawe_session *s, const int64_t *inputs, size_t count, size_t room, size_t number,
+                    size_t place, size_t index)
+{
+    conuhawe_session before = *s;
+    int64_t values[6] = {-1, -2, -3, -4, -5, -6}, same[6];
+    memcpy(same, values, sizeof same);
+    expect(what, conuhawe_instant(s, inputs, count, values, room), number, place, index, 0, 0, 0);
+    expect_true(what, memcmp(&before, s, sizeof before) == 0 && memcmp(values, same, sizeof same) == 0);
+}
+
+static void check_session(file node)
+{
+    static const int64_t inputs[3][2] = {{1, 1}, {0, 1}, {1, 0}};
+    static const int64_t wanted[3][6] = {{1, 1, 0, 0, 0, 1}, {0, 1, 1, 1, 0, 1}, {1, 0, 0, 0, 0, 1}};
+    conuhawe_session *s = malloc(sizeof *s);
+    if (!s)
+        exit(1);
+    memset(s, 0xab, sizeof *s);
+    refuses("no node", s, inputs[0], 2, 6, CONUHAWE_NO_NODE, CONUHAWE_FILE, 0);
+
+    conuhawe_session before = *s;
+    expect("begin on nothing", conuhawe_begin(s, node.bytes, 0), CONUHAWE_NODE_LENGTH, CONUHAWE_FILE, 0, 0, 0, 0);
+    expect_true("a refused beginning leaves the record", memcmp(&before, s, sizeof before) == 0);
+
+    expect("begin", conuhawe_begin(s, node.bytes, node.length), 0, 0, 0, 6, 5, 0);
+    for (int t = 0; t < 3; t++) {
+        int64_t values[6];
+        memset(values, 0xab, sizeof values);
+        expect("instant", conuhawe_instant(s, inputs[t], 2, values, 6), 0, 0, 0, 0, 0, 0);
+        expect_true("values", memcmp(values, wanted[t], sizeof values) == 0);
+    }
+
+    static const int64_t two[2] = {1, 2};
+    refuses("input count", s, inputs[0], 1, 6, CONUHAWE_INPUT_COUNT, CONUHAWE_FILE, 0);
+    refuses("slice length", s, inputs[0], 2, 5, CONUHAWE_SLICE_LENGTH, CONUHAWE_FILE, 0);
+    refuses("bool input", s, two, 2, 6, CONUHAWE_BOOL_INPUT, CONUHAWE_RECORD, 1);
+    s->started = 7;
+    s->spare[6] = 9;
+    refuses("bool input, started 7", s, two, 2, 6, CONUHAWE_BOOL_INPUT, CONUHAWE_RECORD, 1);
+    s->last[3] = 2;
+    refuses("a bool of the last instant is 2", s, inputs[0], 2, 6, CONUHAWE_NO_NODE, CONUHAWE_FILE, 0);
+    free(s);
+}
+
+int main(int argc, char **argv)
+{
+    if (argc != 3) {
+        fprintf(stderr, "usage: smoke NODE CERTIFICATE\n");
+        return 2;
+    }
+    file node = read_file(argv[1]), cert = read_file(argv[2]);
+    check_files(node, cert);
+    check_notes(node, cert);
+    check_session(node);
+    printf("%s\n", failures ? "failed" : "ok");
+    return failures != 0;
+}
