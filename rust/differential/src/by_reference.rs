@@ -1,0 +1,46 @@
+//! `rust/reference` as a checker.
+
+use crate::checker::{Checker, Record, Refusal, Shape, Verdict};
+use reference::{certificate, node, session};
+
+/// The second implementation, written from 01 alone.
+#[derive(Clone, Copy, Debug, Default)]
+pub struct Reference;
+
+impl Checker for Reference {
+    fn name(&self) -> String {
+        "reference".into()
+    }
+
+    fn check(&self, node: &[u8], certificate: &[u8]) -> Verdict {
+        certificate::check(node, certificate)
+    }
+
+    fn read(&self, file: &[u8]) -> Result<Shape, Refusal> {
+        node::read(file).map(|node| Shape {
+            streams: node.count(),
+            property: node.property().into(),
+        })
+    }
+
+    fn node_note(&self, file: &[u8]) -> usize {
+        node::note(file).len()
+    }
+
+    fn certificate_note(&self, file: &[u8]) -> usize {
+        certificate::note(file).len()
+    }
+
+    fn begin(&self, record: &mut Record, node: &[u8]) -> Result<(), Refusal> {
+        session::begin(record, node)
+    }
+
+    fn instant(
+        &self,
+        record: &mut Record,
+        inputs: &[i64],
+        values: &mut [i64],
+    ) -> Result<(), Refusal> {
+        session::instant(record, inputs, values)
+    }
+}

@@ -1,0 +1,192 @@
+//! The mixture of pairs: each case draws a node and a certificate, and some
+//! damaged copies of both.
+
+use crate::damage::{damage, Layout};
+use crate::draft::{Draft, MAX_BLOCKS};
+use crate::forge;
+use crate::grow::{grow, Mix};
+use crate::nodes::{self, Taste};
+use crate::pool::Certified;
+use crate::prove;
+use crate::random::Random;
+use reference::build::{CertificateFile, NodeFile};
+
+/// A node file and a certificate file.
+pub type Pair = (Vec<u8>, Vec<u8>);
+
+/// What a case is told to be by its generator.
+#[derive(Clone, Copy, Debug, PartialEq, Eq)]
+pub enum Expected {
+    /// Accepted.
+    Accepted,
+    /// Refused with this number.
+    Refused(u8),
+    /// Anything.
+    Unknown,
+}
+
+/// The pairs of one case, with what is known of each.
+pub fn case(random: &mut Random, pool: &[Certified]) -> Vec<(Pair, Expected)> {
+    let (node, certificate, expected) = original(random, pool);
+    let pair = written(random, &node, &certificate);
+    let copies = random.within(2, 7);
+    let mut pairs = Vec::with_capacity(copies + 1);
+    if random.once_in(12) {
+        pairs.push((strange(random, &pair, pool), Expected::Unknown));
+    }
+    for _ in 0..copies {
+        pairs.push((damaged(random, &pair), Expected::Unknown));
+    }
+    pairs.push((pair, expected));
+    pairs
+}
+
+/// A right pair or a forged one.
+fn original(random: &mut Random, pool: &[Certified]) -> (NodeFile, CertificateFile, Expected) {
+    match random.below(12) {
+        0 => {
+            let (node, certificate, number) = forge::forgery(random);
+            (node, certificate, Expected::Refused(number))
+        }
+        1..4 => from_pool(random, pool),
+        4..8 => proved(random),
+        _ => grown(random),
+    }
+}
+
+/// As many more lines as a part gets: mostly few, at times all there is room
+/// for.
+fn padding(random: &mut Random) -> usize {
+    match random.below(120) {
+        0 => MAX_BLOCKS,
+        1..4 => random.within(50, 200),
+        4..50 => random.within(1, 12),
+        _ => 0,
+    }
+}
+
+/// A certificate of the pool among other lines, if they fit.
+fn from_pool(random: &mut Random, pool: &[Certified]) -> (NodeFile, CertificateFile, Expected) {
+    let (node, found) = &pool[random.below(pool.len())];
+    let mut draft = Draft::new(node, found.depth);
+    let whole = imported(random, &mut draft, found);
+    let certificate = match whole {
+        Some(()) => draft.finish(),
+        None => found.clone(),
+    };
+    (node.clone(), certificate, Expected::Accepted)
+}
+
+fn imported(random: &mut Random, draft: &mut Draft, found: &CertificateFile) -> Option<()> {
+    let spare = MAX_BLOCKS - found.base.len() - found.step.len() - found.constraints.len();
+    let count = padding(random).min(spare / 6);
+    grow(random, draft, Mix::ALL, count);
+    draft.import(found, &found.base, 0)?;
+    grow(random, draft, Mix::ALL, count);
+    draft.begin_step();
+    draft.import(found, &found.step, found.base.len())?;
+    grow(random, draft, Mix::ALL, count);
+    Some(())
+}
+
+/// A random node with a property that unit steps prove, and the proof.
+fn proved(random: &mut Random) -> (NodeFile, CertificateFile, Expected) {
+    loop {
+        let depth = random.within(1, 8) as u8;
+        let taste = Taste {
+            size: random.of([3, 6, 10, 16, 64]),
+            ints: 5,
+            inputs: random.of([0, 1, 2]),
+            large: random.once_in(4),
+            truth: false,
+        };
+        let mut node = nodes::node(random, taste);
+        let provable = prove::provable(&node, depth);
+        let Some(property) = random.pick(&provable) else {
+            continue;
+        };
+        node.property = property;
+        if let Some(certificate) = proof(random, &node, depth) {
+            return (node, certificate, Expected::Accepted);
+        }
+    }
+}
+
+fn proof(random: &mut Random, node: &NodeFile, depth: u8) -> Option<CertificateFile> {
+    let mut draft = Draft::new(node, depth);
+    let count = padding(random).min(60);
+    grow(random, &mut draft, Mix::ALL, count);
+    prove::refute(&mut draft)?;
+    draft.begin_step();
+    prove::refute(&mut draft)?;
+    let count = padding(random);
+    grow(random, &mut draft, Mix::ALL, count);
+    Some(draft.finish())
+}
+
+/// Random lines over a random node: accepted where the property is the
+/// constant true, else without an empty line, or with a forged line at the
+/// end of a part.
+fn grown(random: &mut Random) -> (NodeFile, CertificateFile, Expected) {
+    let taste = Taste::any(random);
+    let node = nodes::node(random, taste);
+    let mut draft = Draft::new(&node, random.within(1, 8) as u8);
+    let count = 4 + padding(random).min(300);
+    grow(random, &mut draft, Mix::ALL, count);
+    let mut refuted = taste.truth && prove::refute(&mut draft).is_some();
+    let mut forged = random.once_in(8) && forge::forged_line(random, &mut draft).is_some();
+    draft.begin_step();
+    grow(random, &mut draft, Mix::ALL, count);
+    refuted &= taste.truth && prove::refute(&mut draft).is_some();
+    forged |= !refuted && forge::forged_line(random, &mut draft).is_some();
+    let certificate = draft.finish();
+    let ended =
+        [&certificate.base, &certificate.step].map(|part| part.iter().any(|line| line.count == 0));
+    let expected = match (forged, ended) {
+        (true, _) => Expected::Unknown,
+        (false, [true, true]) => Expected::Accepted,
+        (false, _) => Expected::Refused(21),
+    };
+    (node, certificate, expected)
+}
+
+/// The files' bytes, with or without notes.
+fn written(random: &mut Random, node: &NodeFile, certificate: &CertificateFile) -> Pair {
+    let behind_note = |random: &mut Random, bytes: Vec<u8>| {
+        let mut file = nodes::note(random, bytes.len());
+        file.extend(bytes);
+        file
+    };
+    let node = behind_note(random, node.bytes());
+    (node, behind_note(random, certificate.bytes()))
+}
+
+/// A pair of files that both pass 1 to 4 and 11 to 14, one or both damaged.
+pub fn damaged(random: &mut Random, (node, certificate): &Pair) -> Pair {
+    let (mut node, mut certificate) = (node.clone(), certificate.clone());
+    let layout = Layout::of_node(&node);
+    let Layout::Node(n) = layout else {
+        return (node, certificate);
+    };
+    let which = random.below(10);
+    if which > 0 {
+        let layout = Layout::of_certificate(n, &certificate);
+        damage(random, layout, &mut certificate);
+    }
+    if which < 3 {
+        damage(random, layout, &mut node);
+    }
+    (node, certificate)
+}
+
+/// Files that do not belong together, or random bytes.
+fn strange(random: &mut Random, (node, certificate): &Pair, pool: &[Certified]) -> Pair {
+    let (other_node, other) = &pool[random.below(pool.len())];
+    let length = random.below(400);
+    match random.below(4) {
+        0 => (node.clone(), other.bytes()),
+        1 => (other_node.bytes(), certificate.clone()),
+        2 => (random.bytes(length), certificate.clone()),
+        _ => (node.clone(), random.bytes(length)),
+    }
+}

@@ -1,0 +1,54 @@
+//! What an implementation is compared by.
+
+pub use reference::answer::{Accepted, Place, Refusal, Verdict};
+pub use reference::session::Record;
+
+/// What the reader says of an accepted node file.
+#[derive(Clone, Copy, Debug, PartialEq, Eq)]
+pub struct Shape {
+    /// The number of streams.
+    pub streams: usize,
+    /// The property stream.
+    pub property: usize,
+}
+
+/// An implementation of 01: reader, session and checker.
+///
+/// The session record is lent as 1,040 bytes of node file, a length, whether
+/// an instant was answered, and 64 last values; see [`record_bytes`].
+pub trait Checker {
+    /// Its name, for messages.
+    fn name(&self) -> String;
+
+    /// The verdict on a node file and a certificate file.
+    fn check(&self, node: &[u8], certificate: &[u8]) -> Verdict;
+
+    /// The verdict on a node file.
+    fn read(&self, node: &[u8]) -> Result<Shape, Refusal>;
+
+    /// The length of a node file's note.
+    fn node_note(&self, node: &[u8]) -> usize;
+
+    /// The length of a certificate file's note.
+    fn certificate_note(&self, certificate: &[u8]) -> usize;
+
+    /// A beginning on a node file.
+    fn begin(&self, record: &mut Record, node: &[u8]) -> Result<(), Refusal>;
+
+    /// An instant's call.
+    fn instant(
+        &self,
+        record: &mut Record,
+        inputs: &[i64],
+        values: &mut [i64],
+    ) -> Result<(), Refusal>;
+}
+
+/// The record as 1040 + 8 + 1 + 512 bytes: file, length, answered, last.
+pub fn record_bytes(record: &Record) -> Vec<u8> {
+    let mut bytes = record.bytes.to_vec();
+    bytes.extend((record.length as u64).to_le_bytes());
+    bytes.push(u8::from(record.answered));
+    bytes.extend(record.last.iter().flat_map(|value| value.to_le_bytes()));
+    bytes
+}

@@ -1,0 +1,194 @@
+//! The comparison: verdict, place, note lengths, values, session record and
+//! slices, byte for byte. A difference panics with the seed and the bytes.
+
+use crate::checker::{record_bytes, Checker, Record, Refusal, Shape, Verdict};
+use std::fmt::{Debug, Write};
+
+/// Where a case comes from: a run's seed and the case's number draw it again.
+#[derive(Clone, Copy, Debug)]
+pub struct Origin {
+    /// The run's seed.
+    pub seed: u64,
+    /// The case.
+    pub case: u64,
+}
+
+/// What a checker says of two files.
+#[derive(Debug, PartialEq, Eq)]
+struct Said {
+    verdict: Verdict,
+    shape: Result<Shape, Refusal>,
+    node_note: usize,
+    certificate_note: usize,
+}
+
+impl Said {
+    fn by(checker: &dyn Checker, node: &[u8], certificate: &[u8]) -> Self {
+        Said {
+            verdict: checker.check(node, certificate),
+            shape: checker.read(node),
+            node_note: checker.node_note(node),
+            certificate_note: checker.certificate_note(certificate),
+        }
+    }
+
+    /// A checker agrees with itself: 1 to 8 are the reader's, and a refused
+    /// file has no note.
+    fn is_coherent(&self) -> bool {
+        match (self.shape, self.verdict) {
+            (Err(refusal), verdict) => verdict == Err(refusal) && self.node_note == 0,
+            (Ok(_), Err(refusal)) => {
+                let unread = (11..=14).contains(&refusal.number);
+                refusal.number > 8 && !(unread && self.certificate_note > 0)
+            }
+            (Ok(_), Ok(_)) => true,
+        }
+    }
+}
+
+/// Compares all on a pair and gives the first one's verdict.
+pub fn pair(checkers: &[&dyn Checker], origin: Origin, node: &[u8], certificate: &[u8]) -> Verdict {
+    let said = Said::by(checkers[0], node, certificate);
+    let bytes = [("node", node), ("certificate", certificate)];
+    if !said.is_coherent() {
+        differ(
+            origin,
+            checkers[0],
+            &said,
+            checkers[0],
+            &"incoherent",
+            &bytes,
+        );
+    }
+    for other in &checkers[1..] {
+        let theirs = Said::by(*other, node, certificate);
+        if theirs != said {
+            differ(origin, checkers[0], &said, *other, &theirs, &bytes);
+        }
+    }
+    said.verdict
+}
+
+/// What a session's call leaves: answer, record and slice.
+#[derive(PartialEq, Eq)]
+struct Left {
+    answer: Result<(), Refusal>,
+    record: Record,
+    values: Vec<i64>,
+}
+
+impl Debug for Left {
+    fn fmt(&self, f: &mut std::fmt::Formatter<'_>) -> std::fmt::Result {
+        let record = hex(&record_bytes(&self.record));
+        write!(
+            f,
+            "{:?}\n  values {:?}\n  record {record}",
+            self.answer, self.values
+        )
+    }
+}
+
+/// Compares all on a session's call. The record and the slice are left as the
+/// first leaves them. A refusal leaves both as they were.
+fn call(
+    checkers: &[&dyn Checker],
+    origin: Origin,
+    (record, values): (&mut Record, &mut [i64]),
+    bytes: &[(&str, &[u8])],
+    run: impl Fn(&dyn Checker, &mut Record, &mut [i64]) -> Result<(), Refusal>,
+) -> Result<(), Refusal> {
+    let left = |checker: &dyn Checker| {
+        let (mut record, mut values) = (record.clone(), values.to_vec());
+        let answer = run(checker, &mut record, &mut values);
+        Left {
+            answer,
+            record,
+            values,
+        }
+    };
+    let first = left(checkers[0]);
+    let kept = first.record == *record && first.values == *values;
+    if first.answer.is_err() && !kept {
+        differ(
+            origin,
+            checkers[0],
+            &first,
+            checkers[0],
+            &"a refusal that writes",
+            bytes,
+        );
+    }
+    for other in &checkers[1..] {
+        let theirs = left(*other);
+        if theirs != first {
+            differ(origin, checkers[0], &first, *other, &theirs, bytes);
+        }
+    }
+    *record = first.record;
+    values.copy_from_slice(&first.values);
+    first.answer
+}
+
+/// Compares all on a beginning.
+pub fn begin(
+    checkers: &[&dyn Checker],
+    origin: Origin,
+    record: &mut Record,
+    node: &[u8],
+) -> Result<(), Refusal> {
+    let before = record_bytes(record);
+    let bytes = [("node", node), ("record", &before[..])];
+    call(
+        checkers,
+        origin,
+        (record, &mut []),
+        &bytes,
+        |checker, record, _| checker.begin(record, node),
+    )
+}
+
+/// Compares all on an instant's call.
+pub fn instant(
+    checkers: &[&dyn Checker],
+    origin: Origin,
+    record: &mut Record,
+    inputs: &[i64],
+    values: &mut [i64],
+) -> Result<(), Refusal> {
+    let before = record_bytes(record);
+    let given: Vec<u8> = inputs
+        .iter()
+        .flat_map(|input| input.to_le_bytes())
+        .collect();
+    let bytes = [("record", &before[..]), ("inputs", &given[..])];
+    call(
+        checkers,
+        origin,
+        (record, values),
+        &bytes,
+        |checker, record, values| checker.instant(record, inputs, values),
+    )
+}
+
+/// Says how two differ, and on what.
+fn differ(
+    origin: Origin,
+    first: &dyn Checker,
+    ours: &dyn Debug,
+    second: &dyn Checker,
+    theirs: &dyn Debug,
+    bytes: &[(&str, &[u8])],
+) -> ! {
+    let mut message = format!("seed {} case {}\n", origin.seed, origin.case);
+    let _ = writeln!(message, "{}: {ours:?}", first.name());
+    let _ = writeln!(message, "{}: {theirs:?}", second.name());
+    for (name, bytes) in bytes {
+        let _ = writeln!(message, "{name} ({} bytes): {}", bytes.len(), hex(bytes));
+    }
+    panic!("{message}")
+}
+
+/// The bytes in hexadecimal.
+pub fn hex(bytes: &[u8]) -> String {
+    bytes.iter().map(|byte| format!("{byte:02x}")).collect()
+}

@@ -1,0 +1,210 @@
+//! A certificate that grows line by line, the base first. What a draft adds
+//! is right by construction, or nothing is added.
+
+use crate::clauses::{clauses, Item};
+use reference::build::proof::resolvent;
+use reference::build::{lit, on, opp, CertificateFile, Constraint, Line, NodeFile};
+use reference::certificate::Part;
+use std::collections::HashMap;
+
+/// As many blocks of 80 bytes as the largest file has room for.
+pub const MAX_BLOCKS: usize = 818;
+/// As many constraints as a certificate may have.
+pub const MAX_CONSTRAINTS: usize = 256;
+
+/// The certificate so far.
+#[derive(Clone, Debug)]
+pub struct Draft<'a> {
+    /// The node it is for.
+    pub node: &'a NodeFile,
+    /// Its depth.
+    pub depth: u8,
+    /// Its constraints.
+    pub constraints: Vec<Constraint>,
+    /// How many constraints it may have.
+    pub limit: usize,
+    numbers: HashMap<Vec<u8>, u16>,
+    /// Its lines, base and step.
+    pub lines: Vec<Line>,
+    base: Option<usize>,
+    holders: HashMap<u16, Vec<u16>>,
+}
+
+impl<'a> Draft<'a> {
+    /// Nothing yet.
+    pub fn new(node: &'a NodeFile, depth: u8) -> Self {
+        Draft {
+            node,
+            depth,
+            constraints: Vec::new(),
+            limit: MAX_CONSTRAINTS,
+            numbers: HashMap::new(),
+            lines: Vec::new(),
+            base: None,
+            holders: HashMap::new(),
+        }
+    }
+
+    /// The part being written.
+    pub fn part(&self) -> Part {
+        self.base.map_or(Part::Base, |_| Part::Step)
+    }
+
+    /// The number of the part's first line.
+    pub fn first(&self) -> usize {
+        self.base.unwrap_or(0)
+    }
+
+    /// Lines from here on are step lines.
+    pub fn begin_step(&mut self) {
+        self.base = Some(self.lines.len());
+        self.holders.clear();
+    }
+
+    /// The highest offset of an equation in this part.
+    pub fn last_offset(&self) -> u8 {
+        match self.part() {
+            Part::Base => self.depth - 1,
+            Part::Step => self.depth,
+        }
+    }
+
+    /// How many blocks more the file has room for.
+    pub fn room(&self) -> usize {
+        MAX_BLOCKS - self.constraints.len() - self.lines.len()
+    }
+
+    /// The literals of a line.
+    pub fn clause(&self, line: u16) -> &[u16] {
+        self.lines[usize::from(line)].clause()
+    }
+
+    /// The lines of this part in which a literal stands.
+    pub fn holders(&self, literal: u16) -> &[u16] {
+        self.holders.get(&literal).map_or(&[], Vec::as_slice)
+    }
+
+    /// The literal on a constraint with this content, added if need be.
+    pub fn literal_on(&mut self, constraint: Constraint) -> Option<u16> {
+        match self.numbers.get(&constraint.bytes()) {
+            Some(i) => Some(on(*i)),
+            None => self.another(constraint),
+        }
+    }
+
+    /// The literal on one more constraint, whether or not its equal is there.
+    pub fn another(&mut self, constraint: Constraint) -> Option<u16> {
+        if self.constraints.len() >= self.limit || self.room() < 2 {
+            return None;
+        }
+        let i = self.constraints.len() as u16;
+        self.constraints.push(constraint);
+        self.numbers.insert(constraint.bytes(), i);
+        Some(on(i))
+    }
+
+    /// The constraint a literal is on, if it is on one.
+    pub fn constraint_of(&self, literal: u16) -> Option<&Constraint> {
+        let i = usize::from(literal / 2).checked_sub(576)?;
+        self.constraints.get(i)
+    }
+
+    /// Adds a line, if there is room, and gives its number.
+    pub fn add(&mut self, line: Line) -> Option<u16> {
+        if self.room() == 0 {
+            return None;
+        }
+        let number = self.lines.len() as u16;
+        for literal in line.clause() {
+            self.holders.entry(*literal).or_default().push(number);
+        }
+        self.lines.push(line);
+        Some(number)
+    }
+
+    /// Adds clause r of stream p at offset q, if there is one.
+    pub fn equation(&mut self, p: u16, q: u8, r: usize) -> Option<u16> {
+        let listed = clauses(&self.node.records, self.part(), p, q);
+        let mut literals = Vec::new();
+        for item in listed.into_iter().nth(r)? {
+            literals.push(match item {
+                Item::Literal(literal) => literal,
+                Item::AtMost(constraint) => self.literal_on(constraint)?,
+            });
+        }
+        self.add(Line::equation(p, q.into(), r as u16, &literals))
+    }
+
+    /// Adds the property line of this part; the base has one alone, q = 0.
+    pub fn property(&mut self, q: u8) -> Option<u16> {
+        let holds = |q: u8| lit(self.node.property, q.into());
+        let literals: Vec<u16> = match self.part() {
+            Part::Base => (0..self.depth).map(|q| opp(holds(q))).collect(),
+            Part::Step if q < self.depth => vec![holds(q)],
+            Part::Step => vec![opp(holds(q))],
+        };
+        self.add(Line::property(q.into(), &literals))
+    }
+
+    /// Adds the join of p and q on r, each literal once, if twelve hold it.
+    pub fn join(&mut self, p: u16, q: u16, r: u16) -> Option<u16> {
+        let literals = resolvent(self.clause(p), self.clause(q), r);
+        (literals.len() <= 12)
+            .then(|| Line::join(p, q, r, &literals))
+            .and_then(|line| self.add(line))
+    }
+
+    /// The line without a literal: joined with one that holds the opposite.
+    pub fn strike(&mut self, line: u16, literal: u16, other: u16) -> Option<u16> {
+        self.join(line, other, literal)
+    }
+
+    /// Adds a line of kind 4.
+    pub fn arithmetic(&mut self, weighted: &[(u16, u32)]) -> Option<u16> {
+        self.add(Line::arithmetic(weighted))
+    }
+
+    /// Adds another certificate's lines for the same node: its constraints
+    /// are looked up by content, its equation lines written anew from this
+    /// crate's own list, its joins moved along.
+    pub fn import(&mut self, from: &CertificateFile, lines: &[Line], first: usize) -> Option<()> {
+        let moved = self.lines.len();
+        let number = |old: u16| (usize::from(old) - first + moved) as u16;
+        for line in lines {
+            if line.kind == 1 {
+                self.equation(line.p, line.q as u8, line.r.into())?;
+                continue;
+            }
+            let mut line = *line;
+            for literal in &mut line.literals[..usize::from(line.count)] {
+                *literal = self.imported(from, *literal)?;
+            }
+            if line.kind == 3 {
+                (line.p, line.q) = (number(line.p), number(line.q));
+                line.r = self.imported(from, line.r)?;
+            }
+            self.add(line)?;
+        }
+        Some(())
+    }
+
+    fn imported(&mut self, from: &CertificateFile, literal: u16) -> Option<u16> {
+        match usize::from(literal / 2).checked_sub(576) {
+            None => Some(literal),
+            Some(i) => Some(self.literal_on(from.constraints[i])? | (literal & 1)),
+        }
+    }
+
+    /// The certificate; what was not begun is empty.
+    pub fn finish(self) -> CertificateFile {
+        let mut base = self.lines;
+        let step = base.split_off(self.base.unwrap_or(base.len()));
+        CertificateFile {
+            note: Vec::new(),
+            depth: self.depth,
+            constraints: self.constraints,
+            base,
+            step,
+        }
+    }
+}

@@ -1,0 +1,261 @@
+//! 01's false turns: whole arguments for properties that fail, each right but
+//! for one turn, and single lines that take such a turn.
+
+use crate::clauses::{clauses, Item};
+use crate::draft::Draft;
+use crate::grow::{grow, Mix};
+use crate::linear::Linear;
+use crate::prove::refute;
+use crate::random::Random;
+use reference::build::proof::resolvent;
+use reference::build::{lit, opp, CertificateFile, Line, NodeFile, Record, BOOL, INT};
+use reference::certificate::Part;
+
+/// A node, a forged certificate for it, and the number that refuses it.
+pub type Forgery = (NodeFile, CertificateFile, u8);
+
+/// One of the four turns at some depth, with other right lines around it.
+pub fn forgery(random: &mut Random) -> Forgery {
+    let k = random.within(1, 8) as u8;
+    let (node, turn, number): (_, Turn, u8) = match random.below(4) {
+        0 => (first_instant_node(random, k), first_instant, 17),
+        1 => (never_equal_node(), never_equal, 20),
+        2 => (input_node(), both_signs, 19),
+        _ => (delayed_node(k), base_line_cited, 19),
+    };
+    let mut draft = Draft::new(&node, k);
+    let padding = random.of([0, 0, 3, 20]);
+    grow(random, &mut draft, Mix::ALL, padding);
+    let kept = turn(&mut draft);
+    draft.begin_step();
+    grow(random, &mut draft, Mix::ALL, padding);
+    turn_step(&mut draft, turn, kept);
+    let certificate = draft.finish();
+    (node, certificate, number)
+}
+
+/// Writes a part of a forged argument. The base's number is of a line that
+/// the step may cite, if it wants one.
+type Turn = fn(&mut Draft) -> Option<u16>;
+
+fn turn_step(draft: &mut Draft, turn: Turn, kept: Option<u16>) {
+    let last = turn(draft);
+    // Only `base_line_cited` leaves a base line to be cited.
+    if let (Some(base), Some(line)) = (kept, last) {
+        let r = draft.clause(line)[0];
+        draft.add(Line::join(line, base, r, &[]));
+    }
+}
+
+/// 2 is true -> false (or pre false) and k delays of it, true to begin with,
+/// make the property, which fails at instant k + 1.
+fn first_instant_node(random: &mut Random, k: u8) -> NodeFile {
+    let arrow = random.of([Record::arrow, Record::arrow_pre]);
+    let mut records = vec![
+        Record::constant(BOOL, 1),
+        Record::constant(BOOL, 0),
+        arrow(BOOL, 0, 1),
+    ];
+    let delays = (0..u16::from(k)).map(|j| Record::arrow_pre(BOOL, 0, 2 + j));
+    records.extend(delays);
+    NodeFile::new(records, 2 + u16::from(k))
+}
+
+/// "treating step offset 0 as instant 0".
+fn first_instant(draft: &mut Draft) -> Option<u16> {
+    if draft.part() == Part::Base {
+        refute(draft)?;
+        return None;
+    }
+    let mut line = draft.property(draft.depth)?;
+    for j in (1..=draft.depth).rev() {
+        let stream = 2 + u16::from(j);
+        let before = draft.equation(stream, j, 1)?;
+        line = draft.strike(line, opp(lit(stream, j.into())), before)?;
+    }
+    let starts = [lit(2, 0), opp(lit(0, 0))];
+    let forged = draft.add(Line::equation(2, 0, 1, &starts))?;
+    line = draft.strike(line, opp(lit(2, 0)), forged)?;
+    let truth = draft.equation(0, 0, 0)?;
+    draft.strike(line, opp(lit(0, 0)), truth)?;
+    None
+}
+
+/// 0 and 1 are int inputs, 5 says that they are never equal.
+fn never_equal_node() -> NodeFile {
+    let records = vec![
+        Record::input(INT),
+        Record::input(INT),
+        Record::at_most(0, 1),
+        Record::at_most(1, 0),
+        Record::and(2, 3),
+        Record::not(4),
+    ];
+    NodeFile::new(records, 5)
+}
+
+/// "dropping the −1 from a negated constraint": u ≤ v and v ≤ u would clash.
+fn never_equal(draft: &mut Draft) -> Option<u16> {
+    let (offsets, q) = match draft.part() {
+        Part::Base => (0..draft.depth, 0),
+        Part::Step => (draft.depth..draft.depth + 1, draft.depth),
+    };
+    let mut left = draft.property(q)?;
+    for q in offsets {
+        let at = |stream| lit(stream, q.into());
+        let either = draft.equation(5, q, 0)?;
+        left = draft.strike(left, opp(at(5)), either)?;
+        let (two, three) = (draft.equation(4, q, 0)?, draft.equation(4, q, 1)?);
+        let under = draft.equation(2, q, 0)?;
+        let over = draft.equation(3, q, 0)?;
+        let bounds = [under, over].map(|line| draft.clause(line)[1]);
+        let clash = draft.arithmetic(&bounds.map(|l| (opp(l), 1)))?;
+        let clash = draft.strike(clash, opp(bounds[0]), under)?;
+        let clash = draft.strike(clash, opp(bounds[1]), over)?;
+        let clash = draft.strike(clash, opp(at(2)), two)?;
+        let clash = draft.strike(clash, opp(at(3)), three)?;
+        left = draft.strike(left, at(4), clash)?;
+    }
+    None
+}
+
+/// 0 is an input and the property, 1 is not 0.
+fn input_node() -> NodeFile {
+    NodeFile::new(vec![Record::input(BOOL), Record::not(0)], 0)
+}
+
+/// "a join that strikes both signs from both clauses".
+fn both_signs(draft: &mut Draft) -> Option<u16> {
+    let (offsets, q) = match draft.part() {
+        Part::Base => (0..draft.depth, 0),
+        Part::Step => (draft.depth..draft.depth + 1, draft.depth),
+    };
+    let mut left = draft.property(q)?;
+    for q in offsets {
+        let (either, neither) = (draft.equation(1, q, 0)?, draft.equation(1, q, 1)?);
+        let both = draft.join(either, neither, lit(1, q.into()))?;
+        let struck = lit(0, q.into());
+        let kept: Vec<u16> = resolvent(&[], draft.clause(left), struck);
+        left = draft.add(Line::join(both, left, struck, &kept))?;
+    }
+    None
+}
+
+/// 2 is false -> pre true, k delays of it are false to begin with, and the
+/// property says that the last is false: it fails at instant k + 1.
+fn delayed_node(k: u8) -> NodeFile {
+    let mut records = vec![
+        Record::constant(BOOL, 0),
+        Record::constant(BOOL, 1),
+        Record::arrow_pre(BOOL, 0, 1),
+    ];
+    let delays = (0..u16::from(k)).map(|j| Record::arrow_pre(BOOL, 0, 2 + j));
+    records.extend(delays);
+    records.push(Record::not(2 + u16::from(k)));
+    NodeFile::new(records, 3 + u16::from(k))
+}
+
+/// "a step line citing a base line": {!2} at offset 0 is the base's.
+fn base_line_cited(draft: &mut Draft) -> Option<u16> {
+    if draft.part() == Part::Base {
+        refute(draft)?;
+        let starts = draft.equation(2, 0, 0)?;
+        let falsity = draft.equation(0, 0, 0)?;
+        return draft.strike(starts, lit(0, 0), falsity);
+    }
+    let k = draft.depth;
+    let line = draft.property(k)?;
+    let either = draft.equation(3 + u16::from(k), k, 0)?;
+    let mut line = draft.strike(line, opp(lit(3 + u16::from(k), k.into())), either)?;
+    for j in (1..=k).rev() {
+        let stream = 2 + u16::from(j);
+        let before = draft.equation(stream, j, 0)?;
+        line = draft.strike(line, lit(stream, j.into()), before)?;
+    }
+    Some(line)
+}
+
+/// Adds a line that takes a false turn, if the draft has what it needs.
+pub fn forged_line(random: &mut Random, draft: &mut Draft) -> Option<u16> {
+    match random.below(5) {
+        0 => as_first_instant(random, draft),
+        1 => as_zero(random, draft),
+        2 => as_both_signs(random, draft),
+        3 => as_base_line(random, draft),
+        _ => as_other_sign(random, draft),
+    }
+}
+
+/// Clause r of an operator 12 or 13 at offset 0, as the base has it.
+fn as_first_instant(random: &mut Random, draft: &mut Draft) -> Option<u16> {
+    let numbered = (0u16..).zip(&draft.node.records);
+    let arrows = numbered.filter(|(_, record)| record.operator >= 12);
+    let arrows: Vec<u16> = arrows.map(|(p, _)| p).collect();
+    let (p, r) = (random.pick(&arrows)?, random.below(2));
+    let listed = clauses(&draft.node.records, Part::Base, p, 0);
+    let mut literals = Vec::new();
+    for item in &listed[r] {
+        literals.push(match item {
+            Item::Literal(literal) => *literal,
+            Item::AtMost(constraint) => draft.literal_on(*constraint)?,
+        });
+    }
+    draft.add(Line::equation(p, 0, r as u16, &literals))
+}
+
+/// A line of kind 4 whose bound is 0.
+fn as_zero(random: &mut Random, draft: &mut Draft) -> Option<u16> {
+    let i = random.below(draft.constraints.len());
+    let constraint = *draft.constraints.get(i)?;
+    let literal = draft.literal_on(constraint)?;
+    let sum = Linear::of(&constraint);
+    let other = draft.literal_on(sum.negated(-sum.bound).constraint()?)?;
+    draft.arithmetic(&[(opp(literal), 1), (opp(other), 1)])
+}
+
+/// A join that leaves out the struck literal's opposite too.
+fn as_both_signs(random: &mut Random, draft: &mut Draft) -> Option<u16> {
+    let own = draft.lines.len() - draft.first();
+    let p = (draft.first() + random.below(own)) as u16;
+    if own == 0 {
+        return None;
+    }
+    let r = random.pick(draft.clause(p))?;
+    let q = random.pick(draft.holders(opp(r)))?;
+    let mut literals = resolvent(draft.clause(p), draft.clause(q), r);
+    literals.retain(|literal| literal / 2 != r / 2);
+    literals.truncate(12);
+    draft.add(Line::join(p, q, r, &literals))
+}
+
+/// A join that cites any line, of the other part too, or itself.
+fn as_base_line(random: &mut Random, draft: &mut Draft) -> Option<u16> {
+    let p = random.below(draft.lines.len()) as u16;
+    let q = random.within(0, draft.lines.len()) as u16;
+    let r = random.pick(draft.lines.get(usize::from(p))?.clause())?;
+    let other = draft
+        .lines
+        .get(usize::from(q))
+        .map_or(&[][..], Line::clause);
+    let mut literals = resolvent(draft.clause(p), other, r);
+    literals.truncate(12);
+    draft.add(Line::join(p, q, r, &literals))
+}
+
+/// A line once more, one literal in the other sign or left out.
+fn as_other_sign(random: &mut Random, draft: &mut Draft) -> Option<u16> {
+    let i = random.below(draft.lines.len());
+    let mut line = *draft.lines.get(i)?;
+    let at = random.below(line.count.into());
+    match random.below(3) {
+        0 => line.literals[at] ^= 1,
+        1 => line.literals.swap(at, 0),
+        _ if line.count > 0 => {
+            line.count -= 1;
+            line.literals[usize::from(line.count)] = 0;
+            line.multipliers[usize::from(line.count)] = 0;
+        }
+        _ => line.kind = line.kind % 4 + 1,
+    }
+    draft.add(line)
+}

@@ -1,0 +1,89 @@
+//! Certificates of a given size and kind, accepted, for measuring and for the
+//! largest files.
+
+use crate::draft::{Draft, MAX_CONSTRAINTS};
+use crate::grow::{grow, Mix};
+use crate::nodes::{self, Taste};
+use crate::prove::refute;
+use crate::random::Random;
+use reference::build::{CertificateFile, NodeFile};
+
+/// A kind of certificate, by what most of its lines are.
+#[derive(Clone, Copy, Debug)]
+pub struct Kind {
+    /// Its name.
+    pub name: &'static str,
+    /// How often a stream of its node is an int one, in ten.
+    pub ints: usize,
+    /// How many constraints it may have.
+    pub constraints: usize,
+    /// What its lines are.
+    pub mix: Mix,
+}
+
+/// The kinds; few constraints leave room for about 800 lines.
+pub const KINDS: [Kind; 4] = [
+    Kind::new("joins", 0, 0, [1, 20, 0]),
+    Kind::new("arithmetic", 8, 32, [0, 0, 1]),
+    Kind::new("equations", 5, 32, [1, 0, 0]),
+    Kind::new("all", 8, MAX_CONSTRAINTS, [1, 1, 1]),
+];
+
+impl Kind {
+    const fn new(name: &'static str, ints: usize, constraints: usize, mix: [usize; 3]) -> Self {
+        let [equations, joins, arithmetic] = mix;
+        let mix = Mix {
+            equations,
+            joins,
+            arithmetic,
+        };
+        Kind {
+            name,
+            ints,
+            constraints,
+            mix,
+        }
+    }
+}
+
+/// A node of 64 streams whose property is the constant true.
+pub fn node(random: &mut Random, ints: usize) -> NodeFile {
+    let taste = Taste {
+        size: 64,
+        ints,
+        inputs: 3,
+        large: false,
+        truth: true,
+    };
+    nodes::node(random, taste)
+}
+
+/// An accepted certificate of at most `lines` lines, or as near to it as the
+/// largest file has room for.
+pub fn certificate(
+    random: &mut Random,
+    node: &NodeFile,
+    depth: u8,
+    kind: Kind,
+    lines: usize,
+) -> CertificateFile {
+    let mut draft = Draft::new(node, depth);
+    draft.limit = kind.constraints;
+    refute(&mut draft).expect("room for a few lines");
+    fill(random, &mut draft, kind.mix, lines / 2, 20);
+    draft.begin_step();
+    refute(&mut draft).expect("room for a few lines");
+    fill(random, &mut draft, kind.mix, lines, 0);
+    draft.finish()
+}
+
+/// Grows up to a number of lines, or until no more than `spare` blocks are
+/// left.
+fn fill(random: &mut Random, draft: &mut Draft, mix: Mix, lines: usize, spare: usize) {
+    for _ in 0..20 * lines {
+        if draft.lines.len() >= lines || draft.room() <= spare {
+            return;
+        }
+        grow(random, draft, mix, 1);
+    }
+}

@@ -1,0 +1,46 @@
+//! Differential tests: generated nodes, certificates and passes on which two
+//! implementations of "Induction certificates for Lustre booking nodes",
+//! called 01 in these comments, must say the same, byte for byte.
+//!
+//! * [`checker`] is what an implementation is compared by; [`by_reference`]
+//!   is `rust/reference`, [`twin`] a second path through any checker, and
+//!   `proved` (a feature) the proved library.
+//! * [`nodes`], [`draft`], [`grow`], [`prove`], [`forge`], [`pool`] and
+//!   [`passes`] generate; [`damage`] spoils; [`cases`] mixes them.
+//! * [`compare`] compares, and prints seed and bytes where two differ;
+//!   [`tally`] counts what was met.
+//!
+//! A longer run, with a line on the way now and then:
+//!
+//! ```text
+//! DIFFERENTIAL_PAIRS=5000000 DIFFERENTIAL_INSTANTS=5000000 DIFFERENTIAL_SEED=2 \
+//!     cargo test --offline --test differential -- --nocapture --test-threads=1
+//! ```
+//!
+//! The same seed draws the same cases; a difference names seed and case and
+//! prints the bytes in hexadecimal.
+
+#![forbid(unsafe_code)]
+#![warn(missing_docs)]
+
+pub mod by_reference;
+pub mod cases;
+pub mod checker;
+pub mod clauses;
+pub mod compare;
+pub mod damage;
+pub mod draft;
+pub mod evaluator;
+pub mod forge;
+pub mod grow;
+pub mod largest;
+pub mod linear;
+pub mod nodes;
+pub mod passes;
+pub mod pool;
+pub mod prove;
+#[cfg(feature = "proved")]
+pub mod proved;
+pub mod random;
+pub mod tally;
+pub mod twin;

@@ -1,0 +1,161 @@
+//! Nodes with certificates that need more than unit steps: induction over
+//! ints and cases, found by the reference's search once a run.
+
+use crate::nodes::{self, Taste};
+use crate::random::Random;
+use reference::build::proof::two_bands_node;
+use reference::build::{search, CertificateFile, NodeFile, Record, BOOL, INT};
+
+/// A node and its certificate.
+pub type Certified = (NodeFile, CertificateFile);
+
+/// The families at every depth that is found soon, and random nodes.
+pub fn pool(random: &mut Random) -> Vec<Certified> {
+    let mut found = Vec::new();
+    for (node, depths) in families(random) {
+        for depth in depths {
+            found.extend(certified(node.clone(), depth));
+        }
+    }
+    for _ in 0..500 {
+        let taste = Taste {
+            size: random.within(3, 8),
+            ints: 5,
+            inputs: 3,
+            large: false,
+            truth: false,
+        };
+        let node = nodes::node(random, taste);
+        found.extend(certified(node, random.of([1, 1, 2, 3])));
+    }
+    found
+}
+
+fn certified(node: NodeFile, depth: u8) -> Option<Certified> {
+    let found = search::certificate(&node.bytes(), depth)?;
+    Some((node, found))
+}
+
+/// Nodes whose property holds, with depths at which that is found.
+fn families(random: &mut Random) -> Vec<(NodeFile, Vec<u8>)> {
+    let k = random.within(0, 20) as i32;
+    let mut all = vec![
+        (two_bands_node(), vec![1, 2, 3, 8]),
+        (counter(k, 3), vec![1, 2, 3, 4]),
+        (counter(-k, 1_000_000_000), vec![1, 2]),
+        (stopping(k), vec![1, 2]),
+        (scaled(-7), vec![1, 2, 8]),
+        (scaled(1_000_000_000), vec![1]),
+        (twins(k), vec![1, 2]),
+        (absolute(), vec![1, 2, 4]),
+        (successor(), vec![1, 2, 8]),
+        (mirror(), vec![1, 5, 8]),
+    ];
+    for depth in 1..=8 {
+        all.push((ring(depth), vec![depth]));
+        all.push((int_ring(depth), vec![depth]));
+    }
+    all
+}
+
+/// 2 counts up from k by `step` and is never below k.
+fn counter(k: i32, step: i32) -> NodeFile {
+    let records = vec![
+        Record::constant(INT, k),
+        Record::constant(INT, step),
+        Record::arrow_pre(INT, 0, 3),
+        Record::sum(2, 1),
+        Record::at_most(0, 2),
+    ];
+    NodeFile::new(records, 4)
+}
+
+/// A counter that stays at k + 1 and is never above it.
+fn stopping(k: i32) -> NodeFile {
+    let records = vec![
+        Record::constant(INT, 0),
+        Record::constant(INT, 1),
+        Record::constant(INT, k),
+        Record::constant(INT, k + 1),
+        Record::arrow_pre(INT, 0, 7),
+        Record::at_most(4, 2),
+        Record::sum(4, 1),
+        Record::choice(INT, 5, 6, 4),
+        Record::at_most(4, 3),
+    ];
+    NodeFile::new(records, 8)
+}
+
+/// Nothing times k is nothing.
+fn scaled(k: i32) -> NodeFile {
+    let records = vec![
+        Record::constant(INT, 0),
+        Record::arrow_pre(INT, 0, 2),
+        Record::multiple(k, 1),
+        Record::equal(1, 0),
+    ];
+    NodeFile::new(records, 3)
+}
+
+/// Two counters that are always equal.
+fn twins(k: i32) -> NodeFile {
+    let records = vec![
+        Record::constant(INT, k),
+        Record::input(INT),
+        Record::multiple(-1, 1),
+        Record::arrow_pre(INT, 0, 5),
+        Record::arrow_pre(INT, 0, 6),
+        Record::sum(3, 1),
+        Record::difference(4, 2),
+        Record::equal(3, 4),
+    ];
+    NodeFile::new(records, 7)
+}
+
+/// If 0 is not negative then 0 else minus 0: not negative.
+fn absolute() -> NodeFile {
+    let records = vec![
+        Record::input(INT),
+        Record::constant(INT, 0),
+        Record::at_most(1, 0),
+        Record::difference(1, 0),
+        Record::choice(INT, 2, 0, 3),
+        Record::at_most(1, 4),
+    ];
+    NodeFile::new(records, 5)
+}
+
+/// No number is equal to itself plus 1.
+fn successor() -> NodeFile {
+    let records = vec![
+        Record::input(INT),
+        Record::constant(INT, 1),
+        Record::sum(0, 1),
+        Record::equal(0, 2),
+        Record::not(3),
+    ];
+    NodeFile::new(records, 4)
+}
+
+/// Everything is the same as itself.
+fn mirror() -> NodeFile {
+    NodeFile::new(vec![Record::input(BOOL), Record::same(0, 0)], 1)
+}
+
+/// A ring of delays, false to begin with: the first stays false.
+fn ring(depth: u8) -> NodeFile {
+    let size = u16::from(depth);
+    let mut records = vec![Record::constant(BOOL, 0)];
+    records.extend((1..=size).map(|i| Record::arrow_pre(BOOL, 0, i % size + 1)));
+    records.push(Record::not(1));
+    NodeFile::new(records, size + 1)
+}
+
+/// The ring over ints: the first is equal to zero.
+fn int_ring(depth: u8) -> NodeFile {
+    let size = u16::from(depth);
+    let mut records = vec![Record::constant(INT, 0)];
+    records.extend((1..=size).map(|i| Record::arrow_pre(INT, 0, i % size + 1)));
+    records.push(Record::equal(1, 0));
+    NodeFile::new(records, size + 1)
+}

@@ -1,0 +1,75 @@
+//! Counts of what was met.
+
+use crate::checker::{Place, Refusal, Verdict};
+use std::collections::BTreeMap;
+use std::fmt;
+
+/// How often each number, and each depth of an accepted one, was met.
+#[derive(Clone, Debug, Default)]
+pub struct Tally {
+    /// Refusals by number; answered calls as 0.
+    pub numbers: BTreeMap<u8, u64>,
+    /// Accepted certificates by depth.
+    pub depths: BTreeMap<u8, u64>,
+    /// The most lines of an accepted certificate.
+    pub longest: u64,
+    /// The highest line refused.
+    pub deepest: usize,
+    /// All together.
+    pub total: u64,
+}
+
+impl Tally {
+    /// Counts a verdict.
+    pub fn verdict(&mut self, verdict: Verdict) {
+        if let Ok(accepted) = verdict {
+            *self.depths.entry(accepted.depth).or_default() += 1;
+            let lines = u64::from(accepted.base) + u64::from(accepted.step);
+            self.longest = self.longest.max(lines);
+        }
+        if let Err(Refusal {
+            place: Place::Line(line),
+            ..
+        }) = verdict
+        {
+            self.deepest = self.deepest.max(line);
+        }
+        self.answer(verdict.map(|_| ()));
+    }
+
+    /// Counts an answer.
+    pub fn answer(&mut self, answer: Result<(), Refusal>) {
+        let number = answer.map_or_else(|refusal| refusal.number, |()| 0);
+        *self.numbers.entry(number).or_default() += 1;
+        self.total += 1;
+    }
+
+    /// How often a number was met, 0 being accepted or answered.
+    pub fn of(&self, number: u8) -> u64 {
+        self.numbers.get(&number).copied().unwrap_or(0)
+    }
+
+    /// How many accepted certificates had this depth.
+    pub fn of_depth(&self, depth: u8) -> u64 {
+        self.depths.get(&depth).copied().unwrap_or(0)
+    }
+}
+
+impl fmt::Display for Tally {
+    fn fmt(&self, f: &mut fmt::Formatter<'_>) -> fmt::Result {
+        write!(f, "{} in all, {} without refusal", self.total, self.of(0))?;
+        let refused = self.numbers.iter().filter(|(number, _)| **number > 0);
+        for (number, count) in refused {
+            write!(f, ", {number}: {count}")?;
+        }
+        if !self.depths.is_empty() {
+            let (longest, deepest) = (self.longest, self.deepest);
+            write!(f, "; accepted by depth {:?}", self.depths)?;
+            write!(
+                f,
+                ", longest {longest} lines, deepest refused line {deepest}"
+            )?;
+        }
+        Ok(())
+    }
+}

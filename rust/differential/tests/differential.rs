@@ -1,0 +1,352 @@
+//! Two checkers say the same of generated pairs and passes.
+//!
+//! `DIFFERENTIAL_PAIRS`, `DIFFERENTIAL_INSTANTS` and `DIFFERENTIAL_SEED` make
+//! a longer or another run; with `--nocapture` the counts are shown.
+
+use differential::by_reference::Reference;
+use differential::cases::{self, Expected};
+use differential::checker::{Checker, Record};
+use differential::compare::{self, Origin};
+use differential::damage::Layout;
+use differential::draft::MAX_BLOCKS;
+use differential::pool::{pool, Certified};
+use differential::random::Random;
+use differential::tally::Tally;
+use differential::twin::Twin;
+use differential::{forge, largest, passes};
+use reference::build::proof::{two_bands_certificate, two_bands_node};
+use std::collections::BTreeMap;
+use std::sync::LazyLock;
+use std::time::Instant;
+
+/// The reference first; every other must say what it says.
+const CHECKERS: &[&dyn Checker] = &[
+    &Reference,
+    &Twin(Reference),
+    #[cfg(feature = "proved")]
+    &differential::proved::Proved,
+    #[cfg(feature = "proved")]
+    &Twin(differential::proved::Proved),
+];
+
+static POOL: LazyLock<Vec<Certified>> = LazyLock::new(|| pool(&mut Random::new(7)));
+
+/// A number given in the environment, or else this one.
+fn wanted(name: &str, default: u64) -> u64 {
+    let given = std::env::var(name).ok();
+    given.and_then(|text| text.parse().ok()).unwrap_or(default)
+}
+
+fn seed() -> u64 {
+    wanted("DIFFERENTIAL_SEED", 1)
+}
+
+/// A line on the way of a long run.
+fn progress(what: &str, since: Instant, done: u64, all: u64, step: &mut u64) {
+    if done >= *step {
+        let seconds = since.elapsed().as_secs_f64();
+        eprintln!("{what}: {done} of {all} in {seconds:.0} s");
+        *step += (all / 20).max(500_000);
+    }
+}
+
+/// Demand 3: where a certificate is accepted the property is 1 at every
+/// answered instant.
+fn holds(origin: Origin, random: &mut Random, node: &[u8]) {
+    let read = reference::node::read(node).expect("an accepted node");
+    let mut record = Record::new();
+    Reference
+        .begin(&mut record, node)
+        .expect("an accepted node");
+    let mut values = vec![0; read.count()];
+    for _ in 0..10 {
+        let inputs: Vec<i64> = read.inputs().iter().map(|_| random.of([0, 1])).collect();
+        if Reference.instant(&mut record, &inputs, &mut values).is_ok() {
+            let property = values[usize::from(read.property())];
+            assert_eq!(property, 1, "{origin:?}: accepted, and fails");
+        }
+    }
+}
+
+/// Compares a pair, asks for what its generator says, and counts it.
+fn checked(
+    origin: Origin,
+    random: &mut Random,
+    ((node, certificate), expected): (cases::Pair, Expected),
+    tally: &mut Tally,
+) {
+    let verdict = compare::pair(CHECKERS, origin, &node, &certificate);
+    let told = match expected {
+        Expected::Accepted => verdict.is_ok(),
+        Expected::Refused(number) => verdict.is_err_and(|refusal| refusal.number == number),
+        Expected::Unknown => true,
+    };
+    let files = || (compare::hex(&node), compare::hex(&certificate));
+    assert!(
+        told,
+        "{origin:?}: {expected:?}, but {verdict:?}\n{:?}",
+        files()
+    );
+    if verdict.is_ok() && random.once_in(4) {
+        holds(origin, random, &node);
+    }
+    tally.verdict(verdict);
+}
+
+#[test]
+fn pairs() {
+    let all = wanted("DIFFERENTIAL_PAIRS", 220_000);
+    let (since, seed) = (Instant::now(), seed());
+    let (mut tally, mut step) = (Tally::default(), 500_000);
+    for case in 0.. {
+        let origin = Origin { seed, case };
+        let mut random = Random::of_case(seed, case);
+        for pair in cases::case(&mut random, &POOL) {
+            checked(origin, &mut random, pair, &mut tally);
+        }
+        progress("pairs", since, tally.total, all, &mut step);
+        if tally.total >= all {
+            break;
+        }
+    }
+    println!(
+        "pairs, seed {seed}, {:.1} s: {tally}",
+        since.elapsed().as_secs_f64()
+    );
+    for number in (1..=8).chain(11..=21) {
+        assert!(tally.of(number) >= all / 2_000, "{number}: {tally}");
+    }
+    for depth in 1..=8 {
+        assert!(tally.of_depth(depth) >= all / 500, "depth {depth}: {tally}");
+    }
+    assert!(tally.longest > 500, "{tally}");
+}
+
+#[test]
+fn instants() {
+    let all = wanted("DIFFERENTIAL_INSTANTS", 400_000);
+    let (since, seed) = (Instant::now(), seed());
+    let (mut tally, mut step) = (Tally::default(), 500_000);
+    for case in 0.. {
+        let origin = Origin { seed, case };
+        let mut random = Random::of_case(!seed, case);
+        let calls = random.within(1, 40);
+        passes::pass(CHECKERS, origin, &mut random, calls, &mut tally);
+        progress("instants", since, tally.total, all, &mut step);
+        if tally.total >= all {
+            break;
+        }
+    }
+    println!(
+        "instants, seed {seed}, {:.1} s: {tally}",
+        since.elapsed().as_secs_f64()
+    );
+    for number in 30..=33 {
+        assert!(tally.of(number) >= all / 200, "{number}: {tally}");
+    }
+    assert!(
+        tally.of(34) >= all / 20 && tally.of(0) >= all / 4,
+        "{tally}"
+    );
+}
+
+/// Every field of a small pair, the notes in front of it as well as not, at
+/// each value worth trying.
+#[test]
+fn every_field() {
+    let mut tally = Tally::default();
+    let mut random = Random::new(3);
+    let counter = POOL
+        .iter()
+        .find(|(_, c)| c.constraints.len() > 4)
+        .expect("one");
+    let two_bands = (two_bands_node(), two_bands_certificate());
+    for (node, certificate) in [&two_bands, counter] {
+        let (node, certificate) = (node.bytes(), certificate.bytes());
+        let layout = Layout::of_node(&node);
+        for wrong in each_value(layout, &node) {
+            let pair = ((wrong, certificate.clone()), Expected::Unknown);
+            checked(Origin { seed: 3, case: 0 }, &mut random, pair, &mut tally);
+        }
+        let layout = Layout::of_certificate(layout.blocks() - 1, &certificate);
+        for wrong in each_value(layout, &certificate) {
+            let pair = ((node.clone(), wrong), Expected::Unknown);
+            checked(Origin { seed: 3, case: 1 }, &mut random, pair, &mut tally);
+        }
+    }
+    println!("every field: {tally}");
+}
+
+/// The file with each value in each field of each block.
+fn each_value(layout: Layout, file: &[u8]) -> Vec<Vec<u8>> {
+    let mut files = Vec::new();
+    for field in (0..layout.blocks()).flat_map(|block| layout.fields(file, block)) {
+        for value in &field.values {
+            let mut wrong = file.to_vec();
+            field.write(&mut wrong, *value);
+            files.push(wrong);
+        }
+    }
+    files
+}
+
+/// Every length of a right pair, cut at either end.
+#[test]
+fn every_length() {
+    let mut tally = Tally::default();
+    let mut random = Random::new(4);
+    let origin = Origin { seed: 4, case: 0 };
+    let (node, certificate) = (two_bands_node().bytes(), two_bands_certificate().bytes());
+    for length in 0..=certificate.len() {
+        let back = certificate.len() - length;
+        for part in [&certificate[..length], &certificate[back..]] {
+            let pair = ((node.clone(), part.to_vec()), Expected::Unknown);
+            checked(origin, &mut random, pair, &mut tally);
+        }
+    }
+    for length in 0..=node.len() {
+        for part in [&node[..length], &node[node.len() - length..]] {
+            let pair = ((part.to_vec(), certificate.clone()), Expected::Unknown);
+            checked(origin, &mut random, pair, &mut tally);
+        }
+    }
+    println!("every length: {tally}");
+}
+
+#[test]
+fn forged_arguments() {
+    let mut tally = Tally::default();
+    for case in 0..4_000 {
+        let origin = Origin { seed: 5, case };
+        let mut random = Random::of_case(5, case);
+        let (node, certificate, number) = forge::forgery(&mut random);
+        let pair = (
+            (node.bytes(), certificate.bytes()),
+            Expected::Refused(number),
+        );
+        checked(origin, &mut random, pair, &mut tally);
+    }
+    println!("forged: {tally}");
+    assert_eq!(tally.of(0), 0);
+    assert!(
+        [17, 19, 20].iter().all(|number| tally.of(*number) > 500),
+        "{tally}"
+    );
+}
+
+/// Certificates that leave no room for one line more, and damaged copies.
+#[test]
+fn largest_files() {
+    let mut tally = Tally::default();
+    let mut random = Random::new(6);
+    for case in 0..48 {
+        let kind = largest::KINDS[case % 4];
+        let node = largest::node(&mut random, kind.ints);
+        let depth = 1 + (case / 4 % 8) as u8;
+        let certificate = largest::certificate(&mut random, &node, depth, kind, MAX_BLOCKS);
+        let mut file = certificate.bytes();
+        assert!(file.len() > 64_000, "{}", file.len());
+        file.splice(..0, vec![0xA5; 65_535 - file.len()]);
+        let origin = Origin {
+            seed: 6,
+            case: case as u64,
+        };
+        let pair = (node.bytes(), file);
+        for _ in 0..20 {
+            let wrong = cases::damaged(&mut random, &pair);
+            let wrong = (wrong, Expected::Unknown);
+            checked(origin, &mut random, wrong, &mut tally);
+        }
+        checked(origin, &mut random, (pair, Expected::Accepted), &mut tally);
+    }
+    println!("largest: {tally}");
+    assert_eq!(tally.longest, MAX_BLOCKS as u64);
+}
+
+/// What a line of kind 1 is of: part, whether at offset 0, operator, type and
+/// clause.
+type Clause = (bool, bool, u8, u8, u8);
+
+/// The clauses of 01's list, in both parts and at first and later offsets.
+fn every_clause() -> Vec<Clause> {
+    let counts = [
+        (1, 0, 1),
+        (2, 0, 2),
+        (3, 0, 3),
+        (4, 0, 3),
+        (5, 0, 4),
+        (9, 0, 2),
+        (10, 0, 3),
+    ];
+    let ints = [(1, 1, 2), (6, 1, 2), (7, 1, 2), (8, 1, 2)];
+    let either = [0, 1].map(|kind| [(11, kind, 4), (12, kind, 2), (13, kind, 2)]);
+    let all = counts.into_iter().chain(ints).chain(either.concat());
+    let windows = [(false, true), (false, false), (true, true), (true, false)];
+    let listed = windows.into_iter().flat_map(|(step, first)| {
+        let given = all
+            .clone()
+            .filter(move |(op, ..)| !(step && first && *op >= 12));
+        given.flat_map(move |(op, kind, count)| (0..count).map(move |r| (step, first, op, kind, r)))
+    });
+    listed.collect()
+}
+
+/// A certificate's lines, and whether each is a step line.
+fn lines(certificate: &[u8]) -> Vec<(bool, &[u8])> {
+    let Layout::Certificate(_, [_, base, step]) = Layout::of_certificate(0, certificate) else {
+        return Vec::new();
+    };
+    let front = &certificate[..certificate.len() - 16];
+    let blocks = front[front.len() - 80 * (base + step)..].chunks(80);
+    blocks
+        .enumerate()
+        .map(|(i, line)| (i >= base, line))
+        .collect()
+}
+
+/// Accepted certificates hold every clause of every operator in both parts,
+/// at first and later offsets, and kind 4 lines of 1 to 12 literals.
+#[test]
+fn coverage() {
+    let mut clauses: BTreeMap<Clause, u64> = BTreeMap::new();
+    let mut others: BTreeMap<(bool, u8, u8), u64> = BTreeMap::new();
+    for case in 0..6_000 {
+        let mut random = Random::of_case(8, case);
+        let Some(((node, file), Expected::Accepted)) = cases::case(&mut random, &POOL).pop() else {
+            continue;
+        };
+        let Layout::Node(n) = Layout::of_node(&node) else {
+            continue;
+        };
+        for (step, line) in lines(&file) {
+            if line[0] > 1 {
+                *others.entry((step, line[0], line[1])).or_default() += 1;
+                continue;
+            }
+            let at = node.len() - 16 - 16 * (n - usize::from(line[2]));
+            let clause = (step, line[4] == 0, node[at], node[at + 1], line[6]);
+            *clauses.entry(clause).or_default() += 1;
+        }
+    }
+    let met = |clause: &Clause| clauses.get(clause).copied().unwrap_or(0);
+    let least = every_clause().into_iter().min_by_key(met).expect("some");
+    println!(
+        "{} clauses, least {least:?}: {}; {others:?}",
+        every_clause().len(),
+        met(&least)
+    );
+    assert!(met(&least) >= 20, "{least:?}");
+    assert_eq!(clauses.len(), every_clause().len());
+    for step in [false, true] {
+        for count in 1..=12 {
+            assert!(
+                others.get(&(step, 4, count)).is_some_and(|met| *met >= 8),
+                "{count}"
+            );
+            assert!(
+                others.get(&(step, 3, count)).is_some_and(|met| *met >= 8),
+                "{count}"
+            );
+        }
+    }
+}
