@@ -1,18 +1,21 @@
 -- The calls on a record are session's calls on the session that it holds.
 -- Assumes nothing.
-use mathlib.Core.Path.{_≡_, refl}
+use mathlib.Core.Path.{_≡_, refl, _∙_, ap}
 use mathlib.Core.Bool.{Bool, true, false, not, cond}
-use mathlib.Core.List.{List}
+use mathlib.Core.List.{List, [], _∷_, _++_}
 use Prim.Native.Nat.{ℕ}
 use lib.Dec.{eqb}
 use lib.IntN.{ℤ}
-use Rattle.answers.specs.Answer.{Answer, accepted, refused}
+use lib.ListN.{length}
+use Rattle.answers.specs.Answer.{Answer, accepted, refused, ifAccepted}
 use Rattle.node.specs.Verdict.{verdictOf}
 use Rattle.session.specs.declared.Session.{Session}
 use Rattle.session.specs.Instants.{answerOf, movedOn, sessionOf}
-use Rattle.session.specs.Records.{begun, begunOf, ifAccepted}
+use Rattle.session.specs.Lists.{Call, Answered, answered}
+use Rattle.session.specs.Records.{begun, begunOf}
 use Rattle.capi.specs.declared.records.SessionRecord.{SessionRecord}
-use Rattle.capi.specs.Records.{asSession, asRecord, recordBegun, answerOn, recordAfter}
+use Rattle.capi.specs.Lists.{answeredOn}
+use Rattle.capi.specs.Records.{asSession, asRecord, recordBegun, answerOn, recordAfter, sliceAfter}
 use Rattle.capi.specs.Theorems.{RecordsAreSessions}
 
 one-or-zero : (b : Bool) → not (eqb (cond b 1 0) 0) ≡ b
@@ -26,10 +29,21 @@ by-answer : {A : Type 0} (answer : Answer A) (s : Session) (r : SessionRecord) �
 by-answer (accepted a) s r = back s
 by-answer (refused number place) s r = refl
 
+begins : (file : List ℕ) (r : SessionRecord) → asSession (recordBegun file r) ≡ begunOf file (asSession r)
+unfolding recordBegun begunOf
+begins file r = by-answer (verdictOf file) (begun file) r
+
+steps : (r : SessionRecord) (inputs : List ℤ) (room : ℕ) → asSession (recordAfter r inputs room) ≡ sessionOf (asSession r) inputs room
+unfolding recordAfter answerOn sessionOf
+steps r inputs room = by-answer (answerOf (asSession r) inputs room) (movedOn (asSession r) inputs) r
+
+lists : (r : SessionRecord) (calls : List Call) → answeredOn r calls ≡ answered (asSession r) calls
+unfolding answeredOn answered answerOn sliceAfter
+lists r [] = refl
+lists r (c ∷ cs) =
+    let own : List Answered = ifAccepted (answerOn r (c .inputs) (length (c .slice))) (record { inputs = c .inputs; values = sliceAfter r (c .inputs) (c .slice) } ∷ []) [] in
+    ap (λ (rest : List Answered). own ++ rest)
+    (lists (recordAfter r (c .inputs) (length (c .slice))) cs ∙ ap (λ (s : Session). answered s cs) (steps r (c .inputs) (length (c .slice))))
+
 pub records-are-sessions : RecordsAreSessions
-unfolding recordBegun begunOf recordAfter answerOn sessionOf
-records-are-sessions =
-    record {
-      begins = λ file r. by-answer (verdictOf file) (begun file) r;
-      steps = λ r inputs room. by-answer (answerOf (asSession r) inputs room) (movedOn (asSession r) inputs) r;
-    }
+records-are-sessions = record { begins = begins; steps = steps; lists = lists }

@@ -5,11 +5,11 @@ use mathlib.Core.Bool.{not, cond}
 use lib.Dec.{eqb}
 use lib.IntN.{ℤ}
 use lib.ListN.{length, replicate}
-use Rattle.answers.specs.Answer.{Answer}
+use Rattle.answers.specs.Answer.{Answer, ifAccepted}
 use Rattle.node.specs.Verdict.{verdictOf}
 use Rattle.session.specs.declared.Session.{Session}
 use Rattle.session.specs.Instants.{answerOf, movedOn, sliceOf}
-use Rattle.session.specs.Records.{begun, ifAccepted}
+use Rattle.session.specs.Records.{begun}
 use Rattle.capi.specs.declared.records.SessionRecord.{SessionRecord}
 
 abbrev pub asSession : SessionRecord → Session

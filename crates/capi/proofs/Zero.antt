@@ -1,0 +1,131 @@
+-- Number 0 says accepted: every refusal's number is above 0.
+-- Assumes nothing.
+use mathlib.Core.Path.{_≡_, refl}
+use mathlib.Core.Bool.{Bool, true, false, cond}
+use mathlib.Core.List.{List}
+use Prim.Native.Nat.{ℕ, _+_, _<_}
+use native.Mathlib.Omega.{arith}
+use lib.Dec.{eqb}
+use lib.IntN.{ℤ}
+use lib.ListN.{length}
+use Rattle.answers.specs.declared.Found.{Found}
+use Rattle.answers.specs.declared.Found.the-variants.{At, Nothing}
+use Rattle.answers.specs.declared.Place.{Place}
+use Rattle.answers.specs.declared.Place.the-variants.{File, Record as AtRecord, Constraint as AtConstraint, Line as AtLine, Base, Step}
+use Rattle.answers.specs.Answer.{Answer, accepted, refused, isAccepted, NodeValues, CertificateValues}
+use Rattle.answers.specs.Checks.{check, checkAll, lowest}
+use Rattle.node.specs.declared.reading.RecordRule.the-variants.{Shape, Operands, Types}
+use Rattle.node.specs.Inputs.{inputCount}
+use Rattle.node.specs.Layout as node-layout
+use Rattle.node.specs.Layout.{streamsOf, propertyOf}
+use Rattle.node.specs.Rules as node-rules
+use Rattle.node.specs.Rules.{lengthOk}
+use Rattle.node.specs.Verdict.{passesOf, recordsVerdict, verdictOf as nodeVerdict}
+use Rattle.session.specs.declared.Session.{Session}
+use Rattle.session.specs.Instants.{inputFits, valueFits, answerOf}
+use Rattle.session.specs.Records.{held, holdsNode}
+use Rattle.constraints.specs.Layout.{trailerOf, lineOf}
+use Rattle.constraints.specs.Rules.{fixedOk, countsOk, distanceOk}
+use Rattle.rules.specs.Lines.{hasEmpty}
+use Rattle.rules.specs.Verdict.{linesOf, baseOf, stepOf, constraintPasses, shapePasses, linePasses, checkLines, lineNumber, linesVerdict, constraintsVerdict, certificateVerdict, afterNode, verdictOf}
+use Rattle.capi.specs.declared.told.Told.{Told}
+use Rattle.capi.specs.Answers.{toldAccepted, toldOf, toldNode, toldCertificate, toldInstant}
+use Rattle.capi.specs.Records.{asSession, answerOn}
+use Rattle.capi.specs.Theorems.{ZeroAccepts}
+
+-- a refusal's number is above 0
+unfoldable pub Numbered : {A : Type 0} → Answer A → Type 0
+Numbered (accepted a) = Unit {0}
+Numbered (refused number place) = 0 < number
+
+above : (A : Type 0) (number : ℕ) (place : Place) → 0 < number → Numbered {A = A} (refused number place)
+unfolding Numbered
+above A number place l = l
+
+none : {A : Type 0} (a : A) → Numbered (accepted a)
+unfolding Numbered
+none a = tt
+
+pub not-zero : (A : Type 0) (number : ℕ) (place : Place) → Numbered {A = A} (refused number place) → number ≡ 0 → ⊥
+unfolding Numbered
+not-zero A number place l e = omega arith
+
+module _ {A : Type 0} where
+  tested : (passes : Bool) (number : ℕ) (place : Place) (rest : Answer A) → 0 < number → Numbered rest → Numbered (check passes number place rest)
+  tested true number place rest l n = n
+  tested false number place rest l n = above A number place l
+
+  tested-all : (found : Found) (number : ℕ) (place : ℕ → Place) (rest : Answer A) → 0 < number → Numbered rest → Numbered (checkAll found number place rest)
+  tested-all (At i) number place rest l n = above A number (place i) l
+  tested-all Nothing number place rest l n = n
+
+node-numbered : (file : List ℕ) → Numbered (nodeVerdict file)
+unfolding nodeVerdict recordsVerdict
+node-numbered file =
+    let n = streamsOf file in
+    tested (lengthOk (length file)) 1 File _ (omega arith)
+    (tested (node-rules.fixedOk (node-layout.trailerOf file)) 2 File _ (omega arith)
+    (tested (node-rules.countsOk (node-layout.trailerOf file)) 3 File _ (omega arith)
+    (tested (node-rules.distanceOk (node-layout.trailerOf file) (length file)) 4 File _ (omega arith)
+    (tested-all (lowest (passesOf file n Shape) n) 5 AtRecord _ (omega arith)
+    (tested-all (lowest (passesOf file n Operands) n) 6 AtRecord _ (omega arith)
+    (tested-all (lowest (passesOf file n Types) n) 7 AtRecord _ (omega arith)
+    (tested (node-rules.propertyOk (node-layout.typeOf file (propertyOf file))) 8 (AtRecord (propertyOf file)) _ (omega arith)
+    (none _))))))))
+
+-- 16, or 16 and the line's kind
+line-number-above : (shape : Bool) (kind : ℕ) → 0 < cond shape (16 + kind) 16
+line-number-above true kind = omega arith
+line-number-above false kind = omega arith
+
+lines : (found : Found) (number : ℕ → ℕ) (rest : Answer CertificateValues) → ((i : ℕ) → 0 < number i) → Numbered rest → Numbered (checkLines found number rest)
+lines (At i) number rest l n = above CertificateValues (number i) (AtLine i) (l i)
+lines Nothing number rest l n = n
+
+certificate-numbered : (node cert : List ℕ) → Numbered (certificateVerdict node cert)
+unfolding certificateVerdict constraintsVerdict linesVerdict
+certificate-numbered node cert =
+    let t = trailerOf cert in
+    tested (lengthOk (length cert)) 11 File _ (omega arith)
+    (tested (fixedOk t) 12 File _ (omega arith)
+    (tested (countsOk t) 13 File _ (omega arith)
+    (tested (distanceOk t (length cert)) 14 File _ (omega arith)
+    (tested-all (lowest (constraintPasses node cert) (t .constraints)) 15 AtConstraint _ (omega arith)
+    (lines (lowest (linePasses node cert) (linesOf cert)) (lineNumber node cert) _ (λ i. line-number-above (shapePasses node cert i) (lineOf cert i .head .kind))
+    (tested (hasEmpty (lineOf cert) (baseOf node cert)) 21 Base _ (omega arith)
+    (tested (hasEmpty (lineOf cert) (stepOf node cert)) 21 Step _ (omega arith)
+    (none _))))))))
+
+after : (a : Answer NodeValues) (b : Answer CertificateValues) → Numbered a → Numbered b → Numbered (afterNode a b)
+unfolding Numbered
+after (accepted v) b n m = m
+after (refused number place) b n m = n
+
+pub verdict-numbered : (node cert : List ℕ) → Numbered (verdictOf node cert)
+unfolding verdictOf
+verdict-numbered node cert =
+    after (nodeVerdict node) (certificateVerdict node cert) (node-numbered node) (certificate-numbered node cert)
+
+instant-numbered : (s : Session) (inputs : List ℤ) (room : ℕ) → Numbered (answerOf s inputs room)
+unfolding answerOf
+instant-numbered s inputs room =
+    let n = streamsOf (held s) in
+    tested (holdsNode s) 30 File _ (omega arith)
+    (tested (eqb (length inputs) (inputCount (held s))) 31 File _ (omega arith)
+    (tested (eqb room n) 32 File _ (omega arith)
+    (tested-all (lowest (inputFits (held s) inputs) n) 33 AtRecord _ (omega arith)
+    (tested-all (lowest (valueFits s inputs) n) 34 AtRecord _ (omega arith)
+    (none _)))))
+
+zero-accepts : {A : Type 0} (values : A → Told) (a : Answer A) → Numbered a → toldOf values a .number ≡ 0 → isAccepted a ≡ true
+zero-accepts values (accepted v) n e = refl
+zero-accepts values (refused number place) n e = absurd (not-zero _ number place n e)
+
+pub zero : ZeroAccepts
+unfolding toldNode toldCertificate toldInstant answerOn
+zero =
+    record {
+      node = λ file. zero-accepts (λ (v : NodeValues). toldAccepted (v .streams) (v .property) 0) (nodeVerdict file) (node-numbered file);
+      certificate = λ node cert. zero-accepts (λ (v : CertificateValues). toldAccepted (v .depth) (v .base) (v .step)) (verdictOf node cert) (verdict-numbered node cert);
+      instant = λ r inputs room. zero-accepts (λ (_ : Unit {0}). toldAccepted 0 0 0) (answerOf (asSession r) inputs room) (instant-numbered (asSession r) inputs room);
+    }
