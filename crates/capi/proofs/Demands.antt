@@ -12,7 +12,6 @@ use Rattle.session.specs.Theorems.{Shows}
 use Rattle.soundness.specs.Demands.{ShowsProperty}
 use Rattle.soundness.proofs.Demands.{demand-3}
 use Rattle.capi.specs.declared.records.SessionRecord.{SessionRecord}
-use Rattle.capi.specs.declared.told.Told.{Told}
 use Rattle.capi.specs.Answers.{toldNode, toldCertificate}
 use Rattle.capi.specs.Lists.{answeredOn}
 use Rattle.capi.specs.Records.{asSession, recordBegun}

@@ -1,13 +1,13 @@
 -- No two answers have the same numbers: the place's is 0 where the answer is accepted, and else tells the place with its index.
 -- Assumes nothing.
 use mathlib.Core.Path.{_≡_, refl, sym, _∙_, ap, ap₂}
-use mathlib.Core.List.{List, [], _∷_}
+use mathlib.Core.List.{[], _∷_}
 use Prim.Native.Nat.{ℕ}
 use native.Mathlib.Omega.{arith}
 use lib.ListN.{getD}
 use Rattle.answers.specs.declared.Place.{Place}
 use Rattle.answers.specs.declared.Place.the-variants.{File, Record, Constraint, Line, Base, Step}
-use Rattle.answers.specs.Answer.{Answer, accepted, refused, NodeValues, CertificateValues}
+use Rattle.answers.specs.Answer.{accepted, refused, NodeValues, CertificateValues}
 use Rattle.capi.specs.declared.told.Told.{Told}
 use Rattle.capi.specs.Answers.{placeNumber, placeIndex, toldAccepted, toldOf, toldRefused, toldNode, toldCertificate, toldInstant}
 use Rattle.capi.specs.Theorems.{Tells, NumbersTell}

@@ -6,15 +6,22 @@
 use crate::sys;
 use crate::{Accepted, Node, Refusal};
 
-/// Checks a node file by rules 1 to 8.
+/// Checks a node file.
+///
+/// # Errors
+///
+/// The first of rules 1 to 8 that is broken.
 pub fn read(node: &[u8]) -> Result<Node, Refusal> {
     // SAFETY: as above.
     unsafe { sys::conuhawe_read(node.as_ptr(), node.len()) }.node()
 }
 
-/// Checks a certificate for a node file: rules 1 to 8 for the node, then 11
-/// to 21. Where it is accepted, the node's property holds at every instant,
-/// whatever the inputs.
+/// Checks a certificate for a node file. Where it is accepted, the node's
+/// property holds at every instant, whatever the inputs.
+///
+/// # Errors
+///
+/// The first rule that is broken: of 1 to 8 for the node, then of 11 to 21.
 pub fn check(node: &[u8], certificate: &[u8]) -> Result<Accepted, Refusal> {
     // SAFETY: as above.
     unsafe {

@@ -15,16 +15,22 @@ impl Session {
     /// How many bytes a session has.
     pub const SIZE: usize = size_of::<Record>();
 
-    /// A session on a node file, before instant 0; refused as by
-    /// [`read`](crate::read).
+    /// A session on a node file, before instant 0.
+    ///
+    /// # Errors
+    ///
+    /// As of [`read`](crate::read).
     pub fn begin(node: &[u8]) -> Result<Session, Refusal> {
         let mut session = Session::from_bytes([0; Session::SIZE]);
         session.begin_again(node)?;
         Ok(session)
     }
 
-    /// Sets the session to a node file, before instant 0. A refusal leaves it
-    /// as it was.
+    /// Sets the session to a node file, before instant 0.
+    ///
+    /// # Errors
+    ///
+    /// As of [`read`](crate::read); the session is left as it was.
     pub fn begin_again(&mut self, node: &[u8]) -> Result<Node, Refusal> {
         // SAFETY: the record is lent for the call alone, and the slice, whose
         // pointer is not null, is read and not kept.
@@ -34,7 +40,10 @@ impl Session {
     /// Runs the next instant: takes a number for each input, in record order
     /// (0 or 1 for a bool), and fills `values` with the value of each stream.
     ///
-    /// A refusal, 30 to 34, leaves the session and `values` as they were.
+    /// # Errors
+    ///
+    /// The first of 30 to 34 that is broken; the session and `values` are
+    /// left as they were.
     pub fn instant(&mut self, inputs: &[i64], values: &mut [i64]) -> Result<(), Refusal> {
         // SAFETY: as above, for two slices; the borrows say that nothing
         // written overlaps anything else.
