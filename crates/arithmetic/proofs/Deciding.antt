@@ -1,30 +1,23 @@
 -- The tests of a line, in the order in which the code meets them.
 -- Assumes nothing.
-use mathlib.Core.Path.{_≡_, refl, sym, ap, ap₂}
+use mathlib.Core.Path.{_≡_, sym}
 use mathlib.Core.List.{List}
 use mathlib.Core.Bool.{Bool, true, false, _&&_}
-use Prim.Native.Nat.{ℕ, zero, suc, _≤_, _<_}
-use native.Mathlib.Nat.{le-refl}
+use Prim.Native.Nat.{ℕ, _≤_, _<_}
 use native.Mathlib.Omega.{arith}
 use borrow.Author.Tests.{le-leb, lt-leb}
 use lib.IntN.{ℤ, pos, negℤ}
-use lib.ListN.{getD}
 use lib.Signed.{leZ}
 use Rattle.answers.specs.Checks.{every}
 use Rattle.answers.proofs.Every.{every-all}
 use Rattle.constraints.specs.Layout.{Constraint, Line, lineHeadAt, literalAt}
-use Rattle.constraints.specs.Linear.{coefficient, sameZ}
 use Rattle.rules.specs.Literals.{atomOf, isConstraint}
+use Rattle.rules.specs.Limited.{Named}
 use Rattle.rules.specs.Arithmetic.{sumOf, arithmeticOk}
-use Rattle.arithmetic.specs.Sums.{sumsOf}
+use Rattle.arithmetic.specs.Sums.{sumsOf, termsZero}
 use Rattle.arithmetic.specs.Checkable.{Usable, Checkable}
-use Rattle.arithmetic.proofs.Adding.{sums-are}
-
--- two tests that agree on each of the first n
-every-same : (f g : ℕ → Bool) (n : ℕ) → ((k : ℕ) → k < n → f k ≡ g k) → every f n ≡ every g n
-unfolding every
-every-same f g zero h = refl
-every-same f g (suc n) h = ap₂ _&&_ (every-same f g n (λ k l. h k (omega arith))) (h n (le-refl (suc n)))
+use Rattle.arithmetic.proofs.Adding.{on}
+use Rattle.arithmetic.proofs.Named.{named-suffice}
 
 module _ (constraints : ℕ → Constraint) (line : Line) (n : ℕ) (e : n ≡ line .head .count) where
   abbrev allOn : Bool
@@ -40,16 +33,11 @@ module _ (constraints : ℕ → Constraint) (line : Line) (n : ℕ) (e : n ≡ l
 
   pub ends : 1 ≤ n → allOn ≡ true → (sums : List ℤ) (bound : ℤ)
       → sums ≡ sumsOf constraints line n → bound ≡ sumOf constraints line n .bound
-      → (every (λ x. sameZ (getD sums x (pos 0)) (pos 0)) 576 && leZ bound (negℤ (pos 1))) ≡ arithmeticOk constraints line
+      → ((j : ℕ) → j < n → Named (on constraints line j) (on constraints line j .head .count))
+      → (every (λ j. termsZero sums (on constraints line j)) n && leZ bound (negℤ (pos 1))) ≡ arithmeticOk constraints line
   unfolding arithmeticOk
-  ends l f sums bound g h =
-      let count = line .head .count in
-      let same =
-      every-same (λ x. sameZ (getD (sumsOf constraints line count) x (pos 0)) (pos 0))
-      (λ x. sameZ (coefficient (sumOf constraints line count .form) x) (pos 0))
-      576
-      (λ x k. ap (λ (z : ℤ). sameZ z (pos 0)) (sums-are constraints line count x k)) in
-      rw (rw e at g, rw e at h, same, le-leb 1 count (rw e at l), rw e at f)
+  ends l f sums bound g h below =
+      rw (g, h, named-suffice constraints line n below, ← e, le-leb 1 n l, f)
 
 -- where all literals are on constraints, each is usable
 pub each-usable : (s : List ℕ) (start at n : ℕ) → Checkable s start at → n ≡ lineHeadAt s at .count

@@ -1,11 +1,12 @@
 -- The sums of a line as an array holds them: one entry a variable.
 use Prim.Native.Nat.{ℕ, _+_, _*_}
 use mathlib.Core.List.{List, [], _∷_}
-use mathlib.Core.Bool.{cond}
+use mathlib.Core.Bool.{Bool, cond}
 use lib.IntN.{ℤ, pos, negℤ, _+ℤ_, _-ℤ_}
 use lib.ListN.{getD, set, replicate}
+use Rattle.answers.specs.Checks.{every}
 use Rattle.constraints.specs.Layout.{Constraint, Line, constraintAt, literalAt}
-use Rattle.constraints.specs.Linear.{Form}
+use Rattle.constraints.specs.Linear.{Form, variable, sameZ}
 use Rattle.rules.specs.Literals.{atomOf, isNegated, constraintNumber}
 use Rattle.rules.specs.Arithmetic.{sumOf}
 
@@ -37,3 +38,11 @@ factorOf l m = cond (isNegated l) (pos m) (negℤ (pos m))
 -- the bound of the opposite of a literal on a constraint of a bound
 unfoldable pub oppositeBound : (literal : ℕ) → ℤ → ℤ
 oppositeBound l bound = cond (isNegated l) bound (negℤ bound -ℤ pos 1)
+
+-- the sum at the variable of term j of a constraint is 0
+abbrev pub zeroAt : List ℤ → Constraint → (j : ℕ) → Bool
+zeroAt sums c j = sameZ (getD sums (variable (c .term j .offset) (c .term j .stream)) (pos 0)) (pos 0)
+
+-- the sum at each variable of a constraint is 0
+abbrev pub termsZero : List ℤ → Constraint → Bool
+termsZero sums c = every (zeroAt sums c) (c .head .count)

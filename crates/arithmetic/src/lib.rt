@@ -2,10 +2,10 @@
 mod sums;
 mod terms;
 
+use crate::sums::add_literals;
 use crate::sums::are_constraints;
 use crate::sums::are_zero;
 use crate::sums::bound_of;
-use crate::sums::sums_of;
 use constraints::line_head;
 ghost use mathlib.Core.Path.{_≡_};
 ghost use Rattle.constraints.specs.Layout.{lineAt};
@@ -26,7 +26,8 @@ pub fn arithmetic_ok(file: &[u8], start: usize, at: usize) -> bool
     if !are_constraints(file, at, count) {
         return false;
     }
-    let sums = sums_of(file, start, at, count);
+    let mut sums = [0i64; 576];
+    add_literals(&mut sums, file, start, at, count);
     let bound = bound_of(file, start, at, count);
-    are_zero(sums) & (bound <= -1)
+    are_zero(&sums, file, start, at, count) & (bound <= -1)
 }

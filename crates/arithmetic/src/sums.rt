@@ -1,5 +1,6 @@
 // The literals of an arithmetic line one after another: all on constraints, and their sums.
 use crate::terms::add_terms;
+use crate::terms::are_terms_zero;
 use crate::terms::bound_at;
 use crate::terms::factor_at;
 use crate::terms::place_of;
@@ -8,13 +9,12 @@ use constraints::literal_at;
 ghost use Prim.Native.Nat.{ℕ, _+_, _<_, _≤_};
 ghost use mathlib.Core.Path.{_≡_};
 ghost use lib.IntN.{pos};
-ghost use lib.ListN.{length, getD};
+ghost use lib.ListN.{length, replicate};
 ghost use Rattle.answers.specs.Checks.{every};
-ghost use Rattle.constraints.specs.Layout.{lineAt, literalAt};
-ghost use Rattle.constraints.specs.Linear.{sameZ};
+ghost use Rattle.constraints.specs.Layout.{constraintAt, lineAt, literalAt};
 ghost use Rattle.rules.specs.Literals.{atomOf, isConstraint};
 ghost use Rattle.rules.specs.Arithmetic.{sumOf};
-ghost use Rattle.arithmetic.specs.Sums.{constraintsFrom, sumsOf};
+ghost use Rattle.arithmetic.specs.Sums.{constraintsFrom, placeOf, sumsOf, termsZero};
 ghost use Rattle.arithmetic.specs.Checkable.{Usable};
 
 // Each of the first `count` literals is on a constraint.
@@ -34,21 +34,19 @@ pub fn are_constraints(file: &[u8], at: usize, count: usize) -> bool
 }
 
 // The opposites of the first `count` literals, times their multipliers, added up: at each variable.
-pub fn sums_of(file: &[u8], start: usize, at: usize, count: usize) -> [i64; 576]
+pub fn add_literals(sums: &mut [i64], file: &[u8], start: usize, at: usize, count: usize)
     requires { ⌜ count ≤ 12 ⌝ }
     requires { ⌜ ((j : ℕ) → j < count → Usable (now file) start at j) ⌝ }
-    ensures { λ r. ⌜ r ≡ sumsOf (constraintsFrom (now (file .entry)) start) (lineAt (now (file .entry)) at) count ⌝ }
+    requires { ⌜ now sums ≡ replicate 576 (pos 0) ⌝ }
+    ensures { λ r. ⌜ now (sums .exit) ≡ sumsOf (constraintsFrom (now (file .entry)) start) (lineAt (now (file .entry)) at) count ⌝ }
 {
-    let mut sums = [0i64; 576];
     let mut j = 0;
     while j < count {
         let place = place_of(file, start, at, j);
         let factor = factor_at(file, at, j);
-        let next = add_terms(sums, file, place, factor);
-        sums = next;
+        add_terms(sums, file, place, factor);
         j += 1;
     }
-    sums
 }
 
 // The same sum's bound.
@@ -66,17 +64,19 @@ pub fn bound_of(file: &[u8], start: usize, at: usize, count: usize) -> i64
     bound
 }
 
-// Each sum is 0.
-pub fn are_zero(sums: [i64; 576]) -> bool
-    ensures { λ r. ⌜ r ≡ every (λ x. sameZ (getD sums x (pos 0)) (pos 0)) 576 ⌝ }
+// The sum at each variable that the first `count` literals name is 0.
+pub fn are_zero(sums: &[i64], file: &[u8], start: usize, at: usize, count: usize) -> bool
+    requires { ⌜ length (now sums) ≡ 576 ⌝ }
+    requires { ⌜ ((j : ℕ) → j < count → Usable (now file) start at j) ⌝ }
+    ensures { λ r. ⌜ r ≡ every (λ j. termsZero (now (sums .entry)) (constraintAt (now (file .entry)) (placeOf (now (file .entry)) start at j))) count ⌝ }
 {
-    let mut x = 0;
-    while x < 576 {
-        let sum = sums[x];
-        if !((sum <= 0) & (0 <= sum)) {
+    let mut j = 0;
+    while j < count {
+        let place = place_of(file, start, at, j);
+        if !are_terms_zero(sums, file, place) {
             return false;
         }
-        x += 1;
+        j += 1;
     }
     true
 }

@@ -10,7 +10,7 @@ ghost use lib.IntN.{pos, natAbs, _*ℤ_};
 ghost use lib.ListN.{length, getD};
 ghost use Rattle.constraints.specs.Layout.{headAt, termAt, constraintAt, literalAt, multiplierAt};
 ghost use Rattle.constraints.specs.Linear.{variable, scaled, written};
-ghost use Rattle.arithmetic.specs.Sums.{addForm, placeOf, factorOf, oppositeBound};
+ghost use Rattle.arithmetic.specs.Sums.{addForm, placeOf, factorOf, oppositeBound, termsZero};
 ghost use Rattle.arithmetic.specs.Checkable.{Summable, Usable};
 
 // A multiplier, or its negation, times a coefficient or a bound: it fits.
@@ -64,23 +64,40 @@ pub fn factor_at(file: &[u8], at: usize, j: usize) -> i64
 }
 
 // The terms of the constraint at an offset, times a factor, added at their variables.
-pub fn add_terms(sums: [i64; 576], file: &[u8], at: usize, factor: i64) -> [i64; 576]
+pub fn add_terms(sums: &mut [i64], file: &[u8], at: usize, factor: i64)
     requires { ⌜ Summable (now file) at ⌝ }
     requires { ⌜ natAbs factor ≤ 1000000 ⌝ }
-    requires { ⌜ ((x : ℕ) → x < 576 → natAbs (getD sums x (pos 0)) ≤ 1000000000000000000) ⌝ }
-    ensures { λ r. ⌜ r ≡ addForm sums (scaled factor (written (constraintAt (now (file .entry)) at) (headAt (now (file .entry)) at .count))) ⌝ }
+    requires { ⌜ (length (now sums) ≡ 576) × ((x : ℕ) → x < 576 → natAbs (getD (now sums) x (pos 0)) ≤ 1000000000000000000) ⌝ }
+    ensures { λ r. ⌜ now (sums .exit) ≡ addForm (now (sums .entry)) (scaled factor (written (constraintAt (now (file .entry)) at) (headAt (now (file .entry)) at .count))) ⌝ }
 {
-    let mut new = sums;
     let head = constraint_head(file, at);
     let count = head.count as usize;
     let mut j = 0;
     while j < count {
         let x = variable_at(file, at, j);
         let weighted = weighted_at(file, at, j, factor);
-        new[x] = new[x] + weighted;
+        sums[x] = sums[x] + weighted;
         j += 1;
     }
-    new
+}
+
+// The sum at the variable of each term of the constraint at an offset is 0.
+pub fn are_terms_zero(sums: &[i64], file: &[u8], at: usize) -> bool
+    requires { ⌜ Summable (now file) at ⌝ }
+    requires { ⌜ length (now sums) ≡ 576 ⌝ }
+    ensures { λ r. ⌜ r ≡ termsZero (now (sums .entry)) (constraintAt (now (file .entry)) at) ⌝ }
+{
+    let head = constraint_head(file, at);
+    let count = head.count as usize;
+    let mut j = 0;
+    while j < count {
+        let sum = sums[variable_at(file, at, j)];
+        if !((sum <= 0) & (0 <= sum)) {
+            return false;
+        }
+        j += 1;
+    }
+    true
 }
 
 fn opposite_bound(literal: Literal, bound: i64) -> i64

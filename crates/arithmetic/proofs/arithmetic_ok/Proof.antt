@@ -1,15 +1,19 @@
 -- `arithmetic::arithmetic_ok` meets its contract: the tests in a row.
 -- Assumes nothing.
-use mathlib.Core.Path.{sym, _∙_, ap}
+use mathlib.Core.Path.{_≡_, refl, sym, _∙_, ap}
+use Prim.Native.Nat.{ℕ, _≤_, _<_}
 use native.Mathlib.Omega.{arith}
 use borrow.Author.Needs.{needs}
 use borrow.Author.Tests.{not-true, not-false}
+use lib.ListN.{length}
 use mir.Syntax.{w64}
 use mir.Val.{SFits}
 use mir.Facts.{toZ-ofZ}
 use Rattle.constraints.specs.declared.layout.LineHead.{LineHead}
 use Rattle.constraints.specs.Layout.{lineAt}
-use Rattle.arithmetic.specs.Sums.{constraintsFrom}
+use Rattle.arithmetic.specs.Sums.{constraintsFrom, sumsOf}
+use Rattle.arithmetic.specs.Checkable.{Usable}
+use Rattle.arithmetic.proofs.Adding.{length-sums}
 use Rattle.arithmetic.proofs.Deciding.{ends-none, ends-other, ends, each-usable}
 use Rattle.arithmetic.proofs.arithmetic_ok.Statement.{statement}
 use Rattle.arithmetic.proofs.arithmetic_ok.Tie as tie
@@ -29,12 +33,13 @@ returns c =
     (ap (λ (h : LineHead). h .count) (head .line-head .ensures))
     (c .if1 .taken)
 
-are-constraints-requires : tie.Need-are-constraints-requires
-are-constraints-requires c κs =
+few : (c : tie.Else1) → c .before .before .line-head .result .count ≤ 12
+few c =
     let head = c .before .before in
-    let s = head .before .before in
-    let e = ap (λ (h : LineHead). h .count) (head .line-head .ensures) in
-    (s .pre .room, omega (arith, e, s .pre .few))
+    omega (arith, ap (λ (h : LineHead). h .count) (head .line-head .ensures), head .before .before .pre .few)
+
+are-constraints-requires : tie.Need-are-constraints-requires
+are-constraints-requires c κs = (c .before .before .before .before .pre .room, few c)
 
 returns-2 : tie.Need-returns-2
 returns-2 c =
@@ -46,39 +51,67 @@ returns-2 c =
     (c .before .before .if1 .left)
     (sym (c .before .are-constraints .ensures) ∙ not-true _ (c .if2 .taken))
 
-sums-of-requires : tie.Need-sums-of-requires
-sums-of-requires c κs =
+-- where all literals are on constraints, each is usable
+usable : (c : tie.Else2)
+    → let head = c .before .before .before .before in
+    let s = head .before .before in
+    (j : ℕ) → j < head .line-head .result .count → Usable (s .args .file .now) (s .args .start) (s .args .at) j
+usable c =
     let head = c .before .before .before .before in
     let s = head .before .before in
-    let e = ap (λ (h : LineHead). h .count) (head .line-head .ensures) in (
-      omega (arith, e, s .pre .few),
-      each-usable (s .args .file .now) (s .args .start) (s .args .at) (head .line-head .result .count) (s .pre) e
-          (sym (c .before .are-constraints .ensures) ∙ not-false _ (c .if2 .left)),
-    )
+    each-usable (s .args .file .now) (s .args .start) (s .args .at) (head .line-head .result .count) (s .pre)
+    (ap (λ (h : LineHead). h .count) (head .line-head .ensures))
+    (sym (c .before .are-constraints .ensures) ∙ not-false _ (c .if2 .left))
+
+slice-aggregate-add-literals : tie.Need-slice-aggregate-add-literals
+slice-aggregate-add-literals c = refl
+
+add-literals-requires : tie.Need-add-literals-requires
+add-literals-requires c κs =
+    (few (c .before .before .before), (usable (c .before), refl))
 
 bound-of-requires : tie.Need-bound-of-requires
-bound-of-requires c κs = sums-of-requires (c .before) κs
+bound-of-requires c κs =
+    let on = c .before .before .before in
+    (few (on .before .before), usable on)
+
+-- the sums as they were lent back
+lent-length : (c : tie.After-add-literals) → length (c .add-literals .last .0) ≡ 576
+lent-length c =
+    let head = c .before .before .before .before .before .before in
+    let s = head .before .before in
+    let constraints = constraintsFrom (s .args .file .now) (s .args .start) in
+    let line = lineAt (s .args .file .now) (s .args .at) in
+    let count = head .line-head .result .count in
+    ap length {y = sumsOf constraints line count} (c .add-literals .ensures) ∙ length-sums constraints line count
+
+slice-aggregate-are-zero : tie.Need-slice-aggregate-are-zero
+slice-aggregate-are-zero c = sym (lent-length (c .before .before .before))
 
 are-zero-requires : tie.Need-are-zero-requires
-are-zero-requires c κs = search needs
+are-zero-requires c κs =
+    let lent = c .before .before .before in
+    (lent-length lent, usable (lent .before .before))
 
 returns-3 : tie.Need-returns-3
 returns-3 c =
-    let sum = c .before .before in
-    let on = sum .before .before in
-    let head = on .before .before .before in
+    let bound = c .before .before in
+    let lent = bound .before .before in
+    let on = lent .before .before in
+    let head = on .before .before .before .before in
     let s = head .before .before in
-    let f : SFits w64 (c .before .bound-of .result) = search needs in
+    let f : SFits w64 (bound .bound-of .result) = search needs in
     rw (c .are-zero .ensures, toZ-ofZ f)
     (ends (constraintsFrom (s .args .file .now) (s .args .start)) (lineAt (s .args .file .now) (s .args .at))
     (head .line-head .result .count)
     (ap (λ (h : LineHead). h .count) (head .line-head .ensures))
-    (on .before .if1 .left)
-    (sym (on .are-constraints .ensures) ∙ not-false _ (sum .before .if2 .left))
-    (sum .sums-of .result)
-    (c .before .bound-of .result)
-    (sum .sums-of .ensures)
-    (c .before .bound-of .ensures))
+    (on .before .before .if1 .left)
+    (sym (on .before .are-constraints .ensures) ∙ not-false _ (on .if2 .left))
+    (lent .add-literals .last .0)
+    (bound .bound-of .result)
+    (lent .add-literals .ensures)
+    (bound .bound-of .ensures)
+    (λ j l. usable on j l .summable .limited .variables))
 
 pub arithmetic-ok-spec : {M : Type 1} → statement M
 arithmetic-ok-spec =
@@ -89,7 +122,9 @@ arithmetic-ok-spec =
     returns
     are-constraints-requires
     returns-2
-    sums-of-requires
+    slice-aggregate-add-literals
+    add-literals-requires
     bound-of-requires
+    slice-aggregate-are-zero
     are-zero-requires
     returns-3)

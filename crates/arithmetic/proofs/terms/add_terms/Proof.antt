@@ -5,6 +5,7 @@ use Prim.Native.Nat.{_-_, _≤_, _<_}
 use native.Mathlib.Omega.{arith}
 use borrow.Author.Needs.{needs}
 use lib.IntN.{natAbs}
+use lib.ListN.{length, length-set}
 use mir.Syntax.{w64}
 use mir.Val.{toZ}
 use mir.Facts.{toZ-ofZ}
@@ -18,11 +19,11 @@ use Rattle.arithmetic.proofs.terms.add_terms.Statement.{statement}
 use Rattle.arithmetic.proofs.terms.add_terms.Tie as tie
 
 abbrev Inv-loop : tie.InvT-loop
-Inv-loop file at factor new₀ count j₀ new j =
-    (j ≤ count) × (new ≡ addForm new₀ (scaled (toZ w64 factor) (written (constraintAt file at) j)))
+Inv-loop sums₀ file at factor count j₀ sums j =
+    (j ≤ count) × (length sums ≡ length sums₀) × (sums ≡ addForm sums₀ (scaled (toZ w64 factor) (written (constraintAt file at) j)))
 
 abbrev μ-loop : tie.MeasureT-loop
-μ-loop file at factor new₀ count j₀ new j = count - j
+μ-loop sums₀ file at factor count j₀ sums j = count - j
 
 constraint-head-requires : tie.Need-constraint-head-requires Inv-loop μ-loop
 constraint-head-requires c κs = search needs
@@ -32,7 +33,7 @@ cast-count c = search needs
 
 loop-holds : tie.Need-loop-holds Inv-loop μ-loop
 unfolding addForm written
-loop-holds c = (search needs, refl)
+loop-holds c = (search needs, refl, refl)
 
 variable-at-requires : tie.Need-variable-at-requires Inv-loop μ-loop
 variable-at-requires c κs =
@@ -50,42 +51,47 @@ weighted-at-requires c κs =
       (rw (toZ-ofZ (s .fits .factor)) (s .pre .1 .0), s .pre .0 .limited .coefficients (c .before .before .loop .j) l),
     )
 
-array-copy-out-new : tie.Need-array-copy-out-new Inv-loop μ-loop
-array-copy-out-new c =
+named-below : (c : tie.After-weighted-at Inv-loop μ-loop) → c .before .variable-at .result < 576
+named-below c =
     let head = c .before .before .before .before .before in
     let s = head .before .before in
     let e = ap (λ (h : ConstraintHead). h .count) (head .constraint-head .ensures) in
     let l : c .before .before .before .loop .j < headAt (s .args .file .now) (s .args .at) .count = omega (arith, e) in
     rw (c .before .variable-at .ensures) (s .pre .0 .limited .variables (c .before .before .before .loop .j) l)
 
-mul-new : tie.Need-mul-new Inv-loop μ-loop
-mul-new c = omega (arith, array-copy-out-new c)
+slice-copy-out-sums : tie.Need-slice-copy-out-sums Inv-loop μ-loop
+slice-copy-out-sums c =
+    let at-loop = c .before .before .before in
+    omega (arith, named-below c, at-loop .loop .inv .1, at-loop .before .before .before .before .pre .1 .1 .0)
 
-add-new : tie.Need-add-new Inv-loop μ-loop
-add-new c =
+mul-sums : tie.Need-mul-sums Inv-loop μ-loop
+mul-sums c = omega (arith, named-below c)
+
+add-sums : tie.Need-add-sums Inv-loop μ-loop
+add-sums c =
     let at-loop = c .before .before .before .before in
     let head = at-loop .before .before in
     let s = head .before .before in
     let e = ap (λ (h : ConstraintHead). h .count) (head .constraint-head .ensures) in
     let l : at-loop .loop .j < headAt (s .args .file .now) (s .args .at) .count = omega (arith, e) in
     let small : natAbs (rd w64 (s .args .factor)) ≤ 1000000 = rw (toZ-ofZ (s .fits .factor)) (s .pre .1 .0) in
-    term-fits (s .args .file .now) (s .args .at) (s .pre .0) (rd w64 (s .args .factor)) small (s .args .sums)
-    (s .good .0 .1 .0 .1)
-    (s .pre .1 .1)
-    (at-loop .loop .new)
+    term-fits (s .args .file .now) (s .args .at) (s .pre .0) (rd w64 (s .args .factor)) small (s .args .sums .now)
+    (s .pre .1 .1 .0)
+    (s .pre .1 .1 .1)
+    (at-loop .loop .sums)
     (at-loop .loop .j)
     (c .before .before .variable-at .result)
     (c .before .weighted-at .result)
     l
-    (at-loop .loop .inv .1)
+    (at-loop .loop .inv .2)
     (c .before .before .variable-at .ensures)
     (c .before .weighted-at .ensures)
 
-array-set-from-new : tie.Need-array-set-from-new Inv-loop μ-loop
-array-set-from-new c = array-copy-out-new (c .before)
+slice-set-from-sums : tie.Need-slice-set-from-sums Inv-loop μ-loop
+slice-set-from-sums c = slice-copy-out-sums (c .before)
 
-mul-new-2 : tie.Need-mul-new-2 Inv-loop μ-loop
-mul-new-2 c = mul-new (c .before)
+mul-t15 : tie.Need-mul-t15 Inv-loop μ-loop
+mul-t15 c = mul-sums (c .before)
 
 add-j : tie.Need-add-j Inv-loop μ-loop
 add-j c = search needs
@@ -102,18 +108,22 @@ loop-again c =
     let l : at-loop .loop .j < headAt (s .args .file .now) (s .args .at) .count = omega (arith, e) in
     let small : natAbs (rd w64 (s .args .factor)) ≤ 1000000 = rw (toZ-ofZ (s .fits .factor)) (s .pre .1 .0) in (
       search needs,
-      term-turn (s .args .file .now) (s .args .at) (s .pre .0) (rd w64 (s .args .factor)) small (s .args .sums)
-          (s .good .0 .1 .0 .1)
-          (s .pre .1 .1)
-          (at-loop .loop .new)
+      simp length-set (at-loop .loop .inv .1),
+      term-turn (s .args .file .now) (s .args .at) (s .pre .0) (rd w64 (s .args .factor)) small (s .args .sums .now)
+          (s .pre .1 .1 .0)
+          (s .pre .1 .1 .1)
+          (at-loop .loop .sums)
           (at-loop .loop .j)
           (c .before .before .variable-at .result)
           (c .before .weighted-at .result)
           l
-          (at-loop .loop .inv .1)
+          (at-loop .loop .inv .2)
           (c .before .before .variable-at .ensures)
           (c .before .weighted-at .ensures),
     )
+
+same-length : tie.Need-same-length Inv-loop μ-loop
+same-length c = c .before .loop .inv .1
 
 returns : tie.Need-returns Inv-loop μ-loop
 returns c =
@@ -121,7 +131,7 @@ returns c =
     let s = head .before .before in
     let e = ap (λ (h : ConstraintHead). h .count) (head .constraint-head .ensures) in
     let j-is : c .before .loop .j ≡ headAt (s .args .file .now) (s .args .at) .count = omega (arith, e) in
-    rw (toZ-ofZ (s .fits .factor), j-is) at (c .before .loop .inv .1)
+    rw (toZ-ofZ (s .fits .factor), j-is) at (c .before .loop .inv .2)
 
 pub add-terms-spec : {M : Type 1} → statement M
 add-terms-spec =
@@ -134,12 +144,13 @@ add-terms-spec =
     loop-holds
     variable-at-requires
     weighted-at-requires
-    mul-new
-    array-copy-out-new
-    add-new
-    mul-new-2
-    array-set-from-new
+    mul-sums
+    slice-copy-out-sums
+    add-sums
+    mul-t15
+    slice-set-from-sums
     add-j
     loop-less
     loop-again
+    same-length
     returns)
