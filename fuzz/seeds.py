@@ -1,0 +1,75 @@
+#!/usr/bin/env python3
+"""Writes the seeds of both targets: seeds.py FOLDER. From the examples, crates/check_pairs, and sessions at the ends of 64 bits."""
+import itertools
+import pathlib
+import struct
+import sys
+
+ROOT = pathlib.Path(__file__).resolve().parent.parent
+sys.path.insert(0, str(ROOT / "tools"))
+from node_files import BOOL, INT, node as node_file, rec
+
+DATA = ROOT / "crates" / "check_pairs" / "data"
+RECORD_FILE = 1040
+NATURAL = 128
+ENDS = [-2**63, -2**62, -1, 0, 1, 2**62, 2**63 - 1]
+
+
+def content(path):
+    return path.read_bytes() if path.is_file() else b""
+
+
+def pairs():
+    for folder in sorted(p for p in (ROOT / "examples").iterdir() if p.is_dir()):
+        yield folder.name, content(folder / "node.bin"), content(folder / "cert.bin")
+    names = (DATA.parent / "args").read_text().splitlines()
+    for node, cert in zip(names[::2], names[1::2]):
+        yield f"{node}-{cert}", content(DATA / node), content(DATA / cert)
+
+
+def check_seed(node, cert):
+    return struct.pack("<H", len(node)) + node + cert
+
+
+def record(node, started, last):
+    """A session record that holds the node, its note taken off."""
+    used = b""
+    if len(node) >= 16:
+        used = node[-min(len(node), 16 + 16 * struct.unpack_from("<H", node, len(node) - 12)[0], RECORD_FILE):]
+    return struct.pack("<Q64q", len(used), *[last] * 64) + used.ljust(RECORD_FILE, b"\0") + bytes([started] + [0] * 7)
+
+
+def session_seed(node, started, last, inputs, room=NATURAL, count=NATURAL):
+    return bytes([room, count]) + record(node, started, last) + check_seed(node, struct.pack(f"<{len(inputs)}q", *inputs))
+
+
+def at_the_ends():
+    """A sum, a difference and a multiple of inputs near the ends of 64 bits, four instants a seed."""
+    inputs = [x for pair in itertools.product(ENDS, ENDS) for x in pair]
+    for name, record in [("sum", rec(6, INT, 0, 1)), ("difference", rec(7, INT, 0, 1)), ("multiple", rec(8, INT, 0, k=-2))]:
+        node = node_file([rec(0, INT), rec(0, INT), record, rec(9, BOOL, 0, 1)], 3)
+        for i in range(0, len(inputs), 8):
+            yield f"{name}-{i}", session_seed(node, 0, 0, inputs[i:i + 8])
+
+
+def main():
+    out = pathlib.Path(sys.argv[1])
+    for target in ("fuzz_check", "fuzz_session"):
+        (out / target).mkdir(parents=True, exist_ok=True)
+    nodes = {}
+    for name, node, cert in pairs():
+        (out / "fuzz_check" / name).write_bytes(check_seed(node, cert))
+        nodes.setdefault(node, name)
+    for node, name in nodes.items():
+        for i, (started, last, inputs) in enumerate([
+            (0, 0, [1, 0] * 32),
+            (1, 1, [0, 1, 1] * 21),
+            (1, 0, ENDS * 9),
+            (1, 2, []),
+        ]):
+            (out / "fuzz_session" / f"{name}-{i}").write_bytes(session_seed(node, started, last, inputs))
+    for name, seed in at_the_ends():
+        (out / "fuzz_session" / name).write_bytes(seed)
+
+
+main()

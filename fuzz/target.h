@@ -1,0 +1,85 @@
+/* What both targets use: exactly sized blocks, little-endian numbers, and the shape of an answer by 01's table of refusals. */
+#ifndef FUZZ_TARGET_H
+#define FUZZ_TARGET_H
+
+#include "conuhawe.h"
+
+#include <stdio.h>
+#include <stdlib.h>
+#include <string.h>
+
+int LLVMFuzzerTestOneInput(const uint8_t *data, size_t size);
+
+#define CHECK(claim)                                                              \
+    do {                                                                          \
+        if (!(claim)) {                                                           \
+            fprintf(stderr, "%s:%d: not so: %s\n", __FILE__, __LINE__, #claim);   \
+            abort();                                                              \
+        }                                                                         \
+    } while (0)
+
+/* A block of just this size, so that a read or write past it is seen. */
+static inline void *block(const void *from, size_t size)
+{
+    void *b = malloc(size);
+    CHECK(b);
+    if (size)
+        memcpy(b, from, size);
+    return b;
+}
+
+static inline size_t u16_at(const uint8_t *p)
+{
+    return p[0] | (size_t)p[1] << 8;
+}
+
+static inline int same_answer(conuhawe_answer a, conuhawe_answer b)
+{
+    return memcmp(&a, &b, sizeof a) == 0;
+}
+
+/* The place that a number is met at; 21 has two. */
+static inline int place_fits(size_t number, size_t place)
+{
+    if (number == 0)
+        return place == CONUHAWE_NO_PLACE;
+    if (number <= 4 || (number >= 11 && number <= 14) || (number >= 30 && number <= 32))
+        return place == CONUHAWE_FILE;
+    if (number <= 8 || number == 33 || number == 34)
+        return place == CONUHAWE_RECORD;
+    if (number == 15)
+        return place == CONUHAWE_CONSTRAINT;
+    if (number >= 16 && number <= 20)
+        return place == CONUHAWE_LINE;
+    return number == 21 && (place == CONUHAWE_BASE || place == CONUHAWE_STEP);
+}
+
+/* What holds of any answer; `streams`, `constraints` and `lines` bound the index. */
+static inline void check_shape(conuhawe_answer a, size_t streams, size_t constraints, size_t lines)
+{
+    CHECK(place_fits(a.number, a.place));
+    if (a.place == CONUHAWE_RECORD)
+        CHECK(a.index < streams);
+    else if (a.place == CONUHAWE_CONSTRAINT)
+        CHECK(a.index < constraints);
+    else if (a.place == CONUHAWE_LINE)
+        CHECK(a.index < lines);
+    else
+        CHECK(a.index == 0);
+    if (a.number != 0)
+        CHECK(a.value[0] == 0 && a.value[1] == 0 && a.value[2] == 0);
+}
+
+/* What holds of an answer on a node file. The trailer may be read where the file is past 1 to 3. */
+static inline void check_node_answer(conuhawe_answer a, const uint8_t *node, size_t length)
+{
+    CHECK(a.number <= 8);
+    size_t streams = a.number == 0 || a.number > 3 ? u16_at(node + length - 12) : 0;
+    check_shape(a, streams, 0, 0);
+    if (a.number != 0)
+        return;
+    CHECK(streams >= 1 && streams <= 64 && 16 + 16 * streams <= length);
+    CHECK(a.value[0] == streams && a.value[1] == u16_at(node + length - 10) && a.value[1] < streams && a.value[2] == 0);
+}
+
+#endif
