@@ -29,8 +29,10 @@ pub fn covers(file: &[u8], at: usize, count: usize, but: u16, other: usize, othe
     let mut j = 0;
     while j < count {
         let l = literal_at(file, at, j);
-        if !((l == but) | stands_from(file, other, others, l, 0)) {
-            return false;
+        if l != but {
+            if !stands_from(file, other, others, l, 0) {
+                return false;
+            }
         }
         j += 1;
     }
