@@ -15,7 +15,7 @@ use Rattle.answers.specs.declared.Rule.{Rule}
 use Rattle.answers.specs.declared.InstantVerdict.{InstantVerdict}
 use Rattle.answers.specs.declared.InstantVerdict.the-variants.{Refused}
 use Rattle.answers.specs.declared.Found.the-variants.{At, Nothing}
-use Rattle.answers.specs.Answer.{Answer, accepted, refused, numberOf, instantAnswer, NodeValues, isAccepted}
+use Rattle.answers.specs.Answer.{Answer, accepted, refused, numberOf, instantAnswer, NodeValues, ifAccepted, isAccepted}
 use Rattle.answers.specs.Checks.{every, lowest}
 use Rattle.answers.proofs.InARow.{by-check}
 use Rattle.answers.proofs.Tests.{both-true}
@@ -30,9 +30,9 @@ use Rattle.streams.proofs.Evaluations.{instant-length}
 use Rattle.session.specs.declared.Session.{Session}
 use Rattle.session.specs.declared.holding.Held.the-variants.{Streams, NoNode}
 use Rattle.session.specs.Records.{filled, held, holdsNode, lastFits}
-use Rattle.session.specs.Instants.{inputFits, workedOut, valueFits, answerOf, sessionOf, sliceOf}
+use Rattle.session.specs.Instants.{inputFits, workedOut, valueFits, answerOf, movedOn, sessionOf, sliceOf}
 use Rattle.session.specs.Working.{nodeHeld, instantOf, valueInside, movedTo}
-use Rattle.session.proofs.Filled.{start-of-filled}
+use Rattle.session.proofs.Filled.{over, over-whole, start-of-filled}
 
 -- a refusal is no answer
 pub not-answered : {A : Type 0} {number : ℕ} {place : Place} → _≡_ {A = Answer (Unit {0})} (refused number place) (accepted tt) → A
@@ -124,8 +124,13 @@ module _ (s : Session) (inputs : List ℤ) (room : ℕ) where
   pub answered-room : answerOf s inputs room ≡ accepted tt → room ≡ streamsOf (held s)
   answered-room e = eqb-true room (streamsOf (held s)) (passed e .1)
 
-  pub answered-few : answerOf s inputs room ≡ accepted tt → room ≤ 64
-  answered-few e = omega (arith, answered-room e, held-sizes s (passed e .0) .few)
+  -- what a call writes has room in the slice, and the array has it
+  pub written-few : (ifAccepted (answerOf s inputs room) room 0 ≤ room) × (ifAccepted (answerOf s inputs room) room 0 ≤ 64)
+  written-few = go (answerOf s inputs room) refl
+    where
+      go : (a : Answer (Unit {0})) → answerOf s inputs room ≡ a → (ifAccepted a room 0 ≤ room) × (ifAccepted a room 0 ≤ 64)
+      go (accepted node) e = (omega arith, omega (arith, answered-room e, held-sizes s (passed e .0) .few))
+      go (refused number place) e = (omega arith, omega arith)
 
 -- ---- the values of the held node's instant
 
@@ -142,23 +147,26 @@ module _ (s : Session) (inputs : List ℤ) where
   unfolding workedOut
   worked-length = instant-length (nodeOf (held s)) (upTo (streamsOf (held s))) inputs (not (s .started)) (s .last)
 
-  -- ---- record and slice
+  -- ---- record and slice, from the values that an answered call has
 
-  module _ (room : ℕ) where
-    pub moves : (values : List ℤ) → answerOf s inputs room ≡ accepted tt → values ≡ filled 64 (pos 0) (workedOut s inputs) → movedTo s values ≡ sessionOf s inputs room
-    unfolding sessionOf
-    moves values a e = rw (a, e)
+  abbrev pub Values : (room : ℕ) → (values : List ℤ) → Type 0
+  Values room values = answerOf s inputs room ≡ accepted tt → values ≡ filled 64 (pos 0) (workedOut s inputs)
 
-    pub keeps-record : {number : ℕ} {place : Place} → answerOf s inputs room ≡ refused number place → s ≡ sessionOf s inputs room
-    unfolding sessionOf
-    keeps-record e = rw e
+  pub moves : (room : ℕ) (values : List ℤ) → Values room values → ifAccepted (answerOf s inputs room) (movedTo s values) s ≡ sessionOf s inputs room
+  unfolding sessionOf
+  moves room values are = go (answerOf s inputs room) are
+    where
+      go : (a : Answer (Unit {0})) → (a ≡ accepted tt → values ≡ filled 64 (pos 0) (workedOut s inputs)) → ifAccepted a (movedTo s values) s ≡ ifAccepted a (movedOn s inputs) s
+      go (accepted node) are = ap (movedTo s) (are refl)
+      go (refused number place) are = refl
 
-  pub writes : (slice values : List ℤ) → answerOf s inputs (length slice) ≡ accepted tt → values ≡ filled 64 (pos 0) (workedOut s inputs) → take (length slice) values ≡ sliceOf s inputs slice
+  pub writes : (slice values : List ℤ) → Values (length slice) values → over slice values (ifAccepted (answerOf s inputs (length slice)) (length slice) 0) ≡ sliceOf s inputs slice
   unfolding sliceOf
-  writes slice values a e =
-      rw (a, e)
-      (start-of-filled 64 (length slice) (pos 0) (workedOut s inputs) (worked-length ∙ sym (answered-room s inputs (length slice) a)))
-
-  pub keeps-slice : (slice : List ℤ) {number : ℕ} {place : Place} → answerOf s inputs (length slice) ≡ refused number place → slice ≡ sliceOf s inputs slice
-  unfolding sliceOf
-  keeps-slice slice e = rw e
+  writes slice values are = go (answerOf s inputs (length slice)) refl are
+    where
+      go : (a : Answer (Unit {0})) → answerOf s inputs (length slice) ≡ a → (a ≡ accepted tt → values ≡ filled 64 (pos 0) (workedOut s inputs)) → over slice values (ifAccepted a (length slice) 0) ≡ ifAccepted a (workedOut s inputs) slice
+      go (accepted node) e are =
+          over-whole slice values
+          ∙ ap (take (length slice)) (are refl)
+          ∙ start-of-filled 64 (length slice) (pos 0) (workedOut s inputs) (worked-length ∙ sym (answered-room s inputs (length slice) e))
+      go (refused number place) e are = refl

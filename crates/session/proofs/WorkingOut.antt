@@ -1,9 +1,9 @@
 -- One instant worked out in an array, stream by stream: the array holds the instant's values so far, and each stream's value is
 -- its row's from the values below it.
 -- Assumes nothing.
-use mathlib.Core.Path.{_≡_, sym, _∙_, ap, fun-ext}
+use mathlib.Core.Path.{_≡_, refl, sym, _∙_, ap, fun-ext}
 use mathlib.Core.Logic.{_⊎_, inl, inr}
-use mathlib.Core.Bool.{Bool, true, false}
+use mathlib.Core.Bool.{Bool, true, false, cond, false≢true}
 use mathlib.Core.List.{List}
 use Prim.Native.Nat.{ℕ, zero, suc, _+_, _<_, _≤_}
 use native.Mathlib.Nat.{not-suc-le-zero, eq-or-lt-of-le, le-of-suc-le-suc}
@@ -13,10 +13,12 @@ use native.Mathlib.Omega.{arith}
 use lib.IntN.{ℤ, pos}
 use lib.ListN.{length, getD, set, replicate, length-replicate}
 use lib.Seq.{getD-set-same, getD-set-other}
+use Rattle.integers.specs.declared.Checked.{Checked}
 use Rattle.integers.specs.declared.Checked.the-variants.{Value, Outside}
 use Rattle.integers.specs.Range.{inside, checkedOf}
-use Rattle.integers.proofs.Within.{inside-fits, value-is, outside-is}
+use Rattle.answers.specs.declared.Found.{Found}
 use Rattle.answers.specs.declared.Found.the-variants.{At, Nothing}
+use Rattle.answers.specs.Checks.{lowest, orAt}
 use Rattle.node.specs.Equations.{equationAt}
 use Rattle.node.specs.Inputs.{inputsBelow}
 use Rattle.node.specs.Layout.{streamsOf}
@@ -27,13 +29,35 @@ use Rattle.streams.specs.Solutions.{row}
 use Rattle.streams.specs.Values.{valuesIn}
 use Rattle.streams.proofs.Evaluations.{evaluated-length}
 use Rattle.streams.proofs.Orders.{upTo-length, upTo-at}
-use Rattle.session.specs.Working.{instantOf, valueInside}
+use Rattle.session.specs.Working.{isValue, numberIn, instantOf, valueInside}
 use Rattle.session.specs.Records.{filled}
 use Rattle.session.proofs.Filled.{same-everywhere, is-filled}
 
 -- a stream that was found was found
 pub at-nothing : {A : Type 0} {i : ℕ} → At i ≡ Nothing → A
 at-nothing e = let n : _≡_ {A = ℕ} 0 1 = cc in absurd (omega arith)
+
+-- where nothing is found the test has passed
+nothing-ok : (ok : Bool) (i : ℕ) → orAt Nothing ok i ≡ Nothing → ok ≡ true
+nothing-ok true i e = refl
+nothing-ok false i e = at-nothing e
+
+-- a checked value is there where the number is inside, and is the number
+value-inside : (z : ℤ) → isValue (checkedOf z) ≡ inside z
+unfolding checkedOf
+value-inside z = go (inside z)
+  where
+    go : (b : Bool) → isValue (cond b (Value z) Outside) ≡ b
+    go true = refl
+    go false = refl
+
+value-number : (z : ℤ) → isValue (checkedOf z) ≡ true → numberIn (checkedOf z) ≡ z
+unfolding checkedOf
+value-number z = go (inside z)
+  where
+    go : (b : Bool) → isValue (cond b (Value z) Outside) ≡ true → numberIn (cond b (Value z) Outside) ≡ z
+    go true e = refl
+    go false e = absurd (false≢true e)
 
 module _ (file : List ℕ) (inputs : List ℤ) (first : Bool) (past : List ℤ) where
   -- the array after the first k streams
@@ -97,22 +121,36 @@ module _ (file : List ℕ) (inputs : List ℤ) (first : Bool) (past : List ℤ) 
     made-value : made ≡ valuesIn (instantOf file inputs first past) i
     made-value = made-is ∙ sym (value-is-row i l)
 
-    pub turn-outside : checkedOf made ≡ Outside → valueInside (instantOf file inputs first past) i ≡ false
-    turn-outside e = ap inside (sym made-value) ∙ outside-is made e
+    -- whether it is there, the definition's test of stream i
+    made-inside : isValue (checkedOf made) ≡ valueInside (instantOf file inputs first past) i
+    made-inside = value-inside made ∙ ap inside made-value
 
-    pub turn-inside : {v : ℤ} → checkedOf made ≡ Value v → valueInside (instantOf file inputs first past) i ≡ true
-    turn-inside e = ap inside (sym made-value) ∙ inside-fits made .1 (value-is made e .1)
-
-    pub turn-holds : {v : ℤ} → checkedOf made ≡ Value v → length present ≡ 64 → streamsOf file ≤ 64 → Holds (set present i v) (i + 1)
-    turn-holds {v} e size few x = rw (add-one i, after-more i l) (go (ℕ-discrete x i))
+    pub made-holds : isValue (checkedOf made) ≡ true → length present ≡ 64 → streamsOf file ≤ 64 → Holds (set present i (numberIn (checkedOf made))) (i + 1)
+    made-holds e size few x = rw (add-one i, after-more i l) (go (ℕ-discrete x i))
       where
-        v-is : v ≡ valueFrom i (after i)
-        v-is = value-is made e .0 ∙ made-is
+        is-row : numberIn (checkedOf made) ≡ valueFrom i (after i)
+        is-row = value-number made e ∙ made-is
 
-        go : Dec (x ≡ i) → getD (set present i v) x (pos 0) ≡ getD (set (after i) i (valueFrom i (after i))) x (pos 0)
+        go : Dec (x ≡ i) → getD (set present i (numberIn (checkedOf made))) x (pos 0) ≡ getD (set (after i) i (valueFrom i (after i))) x (pos 0)
         go (yes p) =
             rw p
-            (getD-set-same present i v (pos 0) (omega arith)
-            ∙ v-is
+            (getD-set-same present i _ (pos 0) (omega arith)
+            ∙ is-row
             ∙ sym (getD-set-same (after i) i _ (pos 0) (omega (arith, after-length i))))
-        go (no n) = getD-set-other present i x v (pos 0) n ∙ holds x ∙ sym (getD-set-other (after i) i x _ (pos 0) n)
+        go (no n) = getD-set-other present i x _ (pos 0) n ∙ holds x ∙ sym (getD-set-other (after i) i x _ (pos 0) n)
+
+  -- ---- the same where streams before may be outside: what was found stays
+
+  module _ (present : List ℤ) (i j : ℕ) (l : i < streamsOf file) (j-is : j ≡ inputsBelow file i) where
+    -- what the code works out, whatever the array holds
+    abbrev worked : Checked
+    worked = checkedOf (meaning (equationAt file i) (getD inputs j (pos 0)) first (valuesIn past) (valuesIn present))
+
+    pub turn-found : (found : Found) → found ≡ lowest (valueInside (instantOf file inputs first past)) i → (found ≡ Nothing → Holds present i) → orAt found (isValue worked) i ≡ lowest (valueInside (instantOf file inputs first past)) (i + 1)
+    unfolding lowest
+    turn-found (At k) e holds = rw (add-one i, ← e)
+    turn-found Nothing e holds = rw (add-one i, ← e, made-inside present i j l j-is (holds refl))
+
+    pub turn-holds : (found : Found) → (found ≡ Nothing → Holds present i) → length present ≡ 64 → streamsOf file ≤ 64 → orAt found (isValue worked) i ≡ Nothing → Holds (set present i (numberIn worked)) (i + 1)
+    turn-holds (At k) holds size few e = at-nothing e
+    turn-holds Nothing holds size few e = made-holds present i j l j-is (holds refl) (nothing-ok (isValue worked) i e) size few

@@ -1,9 +1,11 @@
 -- What the steps of an instant's call give, over the node file that the record holds.
 use Prim.Native.Nat.{ℕ}
 use mathlib.Core.List.{List}
-use mathlib.Core.Bool.{Bool, true, not, cond, _&&_, _||_}
-use lib.IntN.{ℤ}
+use mathlib.Core.Bool.{Bool, true, false, not, cond, _&&_, _||_}
+use lib.IntN.{ℤ, pos}
 use Rattle.answers.specs.Answer.{isAccepted}
+use Rattle.integers.specs.declared.Checked.{Checked}
+use Rattle.integers.specs.declared.Checked.the-variants.{Value, Outside}
 use Rattle.integers.specs.Range.{inside}
 use Rattle.answers.specs.Checks.{every}
 use Rattle.node.specs.Equations.{kindAt}
@@ -36,6 +38,15 @@ nodeHeld s = cond (holdsNode s) (Streams (streamsOf (held s))) NoNode
 -- an instant of the file's node, worked out
 unfoldable pub instantOf : (file : List ℕ) → (inputs : List ℤ) → (first : Bool) → (past : List ℤ) → List ℤ
 instantOf file inputs first past = instant (nodeOf file) (upTo (streamsOf file)) inputs first past
+
+-- a checked value is there; what the array takes of it, 0 where it is not
+abbrev pub isValue : Checked → Bool
+isValue (Value v) = true
+isValue Outside = false
+
+abbrev pub numberIn : Checked → ℤ
+numberIn (Value v) = v
+numberIn Outside = pos 0
 
 -- value i of an instant is one that 64 signed bits hold
 abbrev pub valueInside : (values : List ℤ) → (i : ℕ) → Bool

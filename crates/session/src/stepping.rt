@@ -4,8 +4,9 @@ use crate::outcomes::outcome_of;
 use answers::InstantVerdict;
 ghost use Prim.Native.Nat.{_≤_};
 ghost use mathlib.Core.Path.{_≡_};
-ghost use lib.ListN.{length, take};
-ghost use Rattle.answers.specs.Answer.{instantAnswer};
+ghost use mathlib.Core.List.{_++_};
+ghost use lib.ListN.{length, take, drop};
+ghost use Rattle.answers.specs.Answer.{instantAnswer, ifAccepted};
 ghost use Rattle.session.specs.Instants.{answerOf, sessionOf, sliceOf};
 ghost use Rattle.session.specs.Working.{movedTo};
 
@@ -15,28 +16,42 @@ pub struct Stepped {
     pub session: Session,
 }
 
-// The slice takes the first values, as many as it has room for.
-fn fill(out: &mut [i64], values: [i64; 64])
-    requires { ⌜ length (now out) ≤ 64 ⌝ }
-    ensures { λ r. ⌜ now (out .exit) ≡ take (length (now (out .entry))) values ⌝ }
+// How many values a call writes: a refusal none.
+fn written(answer: InstantVerdict, room: usize) -> usize
+    ensures { λ r. ⌜ r ≡ ifAccepted (instantAnswer answer) room 0 ⌝ }
+{
+    match answer {
+        InstantVerdict::Answered => room,
+        InstantVerdict::Refused(_, _) => 0,
+    }
+}
+
+// The slice takes the first n values.
+fn fill(out: &mut [i64], values: [i64; 64], n: usize)
+    requires { ⌜ (n ≤ length (now out)) × (n ≤ 64) ⌝ }
+    ensures { λ r. ⌜ now (out .exit) ≡ take n values ++ drop n (now (out .entry)) ⌝ }
 {
     let mut i = 0;
-    while i < out.len() {
+    while i < n {
         out[i] = values[i];
         i += 1;
     }
 }
 
-// The record that an answered call leaves.
-fn moved(s: Session, values: [i64; 64]) -> Session
-    ensures { λ r. ⌜ r ≡ movedTo s values ⌝ }
+// The record that a call leaves: a refusal moves nothing.
+fn record_after(s: Session, answer: InstantVerdict, values: [i64; 64]) -> Session
+    ensures { λ r. ⌜ r ≡ ifAccepted (instantAnswer answer) (movedTo s values) s ⌝ }
 {
     let file = s.file;
-    Session {
+    let next = Session {
         file,
         length: s.length,
         started: true,
         last: values,
+    };
+    match answer {
+        InstantVerdict::Answered => next,
+        InstantVerdict::Refused(_, _) => s,
     }
 }
 
@@ -49,18 +64,10 @@ pub fn work(s: Session, inputs: &[i64], out: &mut [i64]) -> Stepped
     let outcome = outcome_of(s, inputs, out.len());
     let answer = outcome.answer;
     let values = outcome.values;
-    let next = moved(s, values);
-    match answer {
-        InstantVerdict::Answered => {
-            fill(out, values);
-            Stepped {
-                answer: InstantVerdict::Answered,
-                session: next,
-            }
-        }
-        InstantVerdict::Refused(rule, place) => Stepped {
-            answer: InstantVerdict::Refused(rule, place),
-            session: s,
-        },
+    let n = written(answer, out.len());
+    fill(out, values, n);
+    Stepped {
+        answer,
+        session: record_after(s, answer, values),
     }
 }

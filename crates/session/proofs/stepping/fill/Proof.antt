@@ -13,10 +13,10 @@ use Rattle.session.proofs.stepping.fill.Statement.{statement}
 use Rattle.session.proofs.stepping.fill.Tie as tie
 
 abbrev Inv-loop : tie.InvT-loop
-Inv-loop out₀ values i₀ out i = (i ≤ length out₀) × (length out ≡ length out₀) × (out ≡ over out₀ values i)
+Inv-loop out₀ n values i₀ out i = (i ≤ n) × (length out ≡ length out₀) × (out ≡ over out₀ values i)
 
 abbrev μ-loop : tie.MeasureT-loop
-μ-loop out₀ values i₀ out i = length out₀ - i
+μ-loop out₀ n values i₀ out i = n - i
 
 loop-holds : tie.Need-loop-holds Inv-loop μ-loop
 loop-holds c = (search needs, refl, refl)
@@ -27,8 +27,8 @@ mul-out c = search needs
 array-copy-out-out : tie.Need-array-copy-out-out Inv-loop μ-loop
 array-copy-out-out c = omega (arith, c .before .loop .inv .1)
 
-mul-t10 : tie.Need-mul-t10 Inv-loop μ-loop
-mul-t10 c = search needs
+mul-t11 : tie.Need-mul-t11 Inv-loop μ-loop
+mul-t11 c = search needs
 
 slice-set-from-out : tie.Need-slice-set-from-out Inv-loop μ-loop
 slice-set-from-out c = search needs
@@ -55,9 +55,9 @@ same-length c = c .before .loop .inv .1
 returns : tie.Need-returns Inv-loop μ-loop
 returns c =
     let at = c .before in
-    let i-is : at .loop .i ≡ length (now (at .before .args .out)) = omega (arith, at .loop .inv .1) in
     let a = at .before .args in
-    at .loop .inv .2 ∙ ap (over (now (a .out)) (a .t2)) i-is ∙ over-whole (now (a .out)) (a .t2)
+    let i-is : at .loop .i ≡ a .n = omega (arith, at .loop .inv .0) in
+    at .loop .inv .2 ∙ ap (over (now (a .out)) (a .t2)) i-is
 
 pub fill-spec : {M : Type 1} → statement M
 fill-spec =
@@ -68,7 +68,7 @@ fill-spec =
     loop-holds
     mul-out
     array-copy-out-out
-    mul-t10
+    mul-t11
     slice-set-from-out
     add-i
     loop-less

@@ -1,42 +1,41 @@
--- `session::worked_out` meets its contract. The loop's invariant: the array holds the values of the streams passed, all of
--- which 64 signed bits hold, and the inputs among them are counted.
+-- `session::worked_out` meets its contract. The loop's invariant: what was found is the lowest of the streams passed whose value
+-- 64 signed bits do not hold; where there is none the array holds their values; and the inputs among them are counted.
 -- Assumes nothing.
-use mathlib.Core.Path.{_≡_, refl, sym, _∙_, subst}
-use mathlib.Core.Bool.{true}
-use Prim.Native.Nat.{ℕ, _-_, _<_, _≤_}
+use mathlib.Core.Path.{_≡_, refl, sym, _∙_, ap, subst}
+use Prim.Native.Nat.{_-_, _<_, _≤_}
 use native.Mathlib.Omega.{arith}
-use borrow.Author.Count.{below-none, below-more}
 use denote.Ref.{now}
 use lib.ListN.{length, length-set}
 use mir.Syntax.{w64}
 use mir.Val.{SFits}
 use mir.Facts.{toZ-ofZ}
-use Rattle.answers.proofs.Lowest.{none, found}
+use Rattle.answers.specs.declared.Found.the-variants.{Nothing}
+use Rattle.answers.specs.Checks.{lowest, orAt}
 use Rattle.node.specs.Inputs.{inputsBelow}
 use Rattle.node.specs.Layout.{streamsOf}
 use Rattle.node.proofs.InputCounts.{inputs-le, inputs-more}
-use Rattle.session.specs.Working.{instantOf, valueInside}
-use Rattle.session.proofs.WorkingOut.{Holds, holds-start, holds-end, turn-inside, turn-outside, turn-holds, at-nothing}
+use Rattle.session.specs.Working.{isValue, numberIn, instantOf, valueInside}
+use Rattle.session.proofs.WorkingOut.{Holds, holds-start, holds-end, turn-found, turn-holds}
 use borrow.Author.Needs.{needs}
 use Rattle.session.proofs.values.worked_out.Statement.{statement}
 use Rattle.session.proofs.values.worked_out.Tie as tie
 
 abbrev Inv-loop : tie.InvT-loop
-Inv-loop file inputs first past n values₀ j₀ i₀ values j i =
+Inv-loop file inputs first past n values₀ outside₀ j₀ i₀ values outside j i =
     (i ≤ n)
     × (length values ≡ 64)
     × (j ≡ inputsBelow file i)
-    × Holds file inputs first past values i
-    × ((k : ℕ) → k < i → valueInside (instantOf file inputs first past) k ≡ true)
+    × (outside ≡ lowest (valueInside (instantOf file inputs first past)) i)
+    × (outside ≡ Nothing → Holds file inputs first past values i)
 
 abbrev μ-loop : tie.MeasureT-loop
-μ-loop file inputs first past n values₀ j₀ i₀ values j i = n - i
+μ-loop file inputs first past n values₀ outside₀ j₀ i₀ values outside j i = n - i
 
 loop-holds : tie.Need-loop-holds Inv-loop μ-loop
-unfolding inputsBelow
+unfolding inputsBelow lowest
 loop-holds c =
     let a = c .before .args in
-    (search needs, refl, refl, holds-start (now (a .file)) (now (a .inputs)) (a .first) (now (a .past)), below-none _)
+    (search needs, refl, refl, refl, λ e. holds-start (now (a .file)) (now (a .inputs)) (a .first) (now (a .past)))
 
 slice-aggregate-value-of : tie.Need-slice-aggregate-value-of Inv-loop μ-loop
 slice-aggregate-value-of c = search needs
@@ -44,30 +43,20 @@ slice-aggregate-value-of c = search needs
 value-of-requires : tie.Need-value-of-requires Inv-loop μ-loop
 value-of-requires c κs = search needs
 
-enum-known-v : tie.Need-enum-known-v Inv-loop μ-loop
-enum-known-v c = search needs
+is-inside-requires : tie.Need-is-inside-requires Inv-loop μ-loop
+is-inside-requires c κs = search needs
+
+or-at-requires : tie.Need-or-at-requires Inv-loop μ-loop
+or-at-requires c κs = search needs
+
+number-of-requires : tie.Need-number-of-requires Inv-loop μ-loop
+number-of-requires c κs = search needs
 
 mul-values : tie.Need-mul-values Inv-loop μ-loop
 mul-values c = search needs
 
 array-set-from-values : tie.Need-array-set-from-values Inv-loop μ-loop
 array-set-from-values c = search needs
-
-enum-told : tie.Need-enum-told Inv-loop μ-loop
-enum-told c = search needs
-
-returns : tie.Need-returns Inv-loop μ-loop
-returns c =
-    let at = c .before .before .before .before .before in
-    let s = at .before .before in
-    let a = s .args in
-    let l : at .loop .i < streamsOf (now (a .file)) = omega (arith, s .pre .0) in
-    let e = sym (c .before .before .value-of .ensures) ∙ c .enum-told .given .1 in (
-      sym
-          (found _ _ _ (c .before .before .before .before .loop-test .taken) (at .loop .inv .4)
-          (turn-outside (now (a .file)) (now (a .inputs)) (a .first) (now (a .past)) (at .loop .values) (at .loop .i) (at .loop .j) l (at .loop .inv .2) (at .loop .inv .3) e)),
-      λ n. at-nothing n,
-    )
 
 with-record-requires : tie.Need-with-record-requires Inv-loop μ-loop
 with-record-requires c κs =
@@ -82,36 +71,39 @@ loop-less c = search needs
 
 loop-again : tie.Need-loop-again Inv-loop μ-loop
 loop-again c =
-    let told = c .before in
-    let at = told .before .before .before .before .before .before in
+    let or-at = c .before .before in
+    let at = or-at .before .before .before .before .before in
     let s = at .before .before in
     let a = s .args in
     let inv = at .loop .inv in
-    let f : SFits w64 (told .before .v .given .0 .0) = search needs in
     let l : at .loop .i < streamsOf (now (a .file)) = omega (arith, s .pre .0) in
     let few : streamsOf (now (a .file)) ≤ 64 = omega (arith, s .pre .0) in
-    let e = sym (told .before .before .before .value-of .ensures) ∙ told .before .v .given .1 in (
+    let made = or-at .before .before .value-of .ensures in
+    let found-is = or-at .or-at .ensures ∙ ap (λ ok. orAt (at .loop .outside) ok (at .loop .i)) (or-at .before .is-inside .ensures ∙ ap isValue made) in
+    let number-is = c .before .number-of .ensures ∙ ap numberIn made in
+    let f : SFits w64 (c .before .number-of .result) = search needs in (
       search needs,
       simp length-set (inv .1),
       c .with-record .ensures ∙ inputs-more _ _ _ (inv .2),
-      rw (toZ-ofZ f)
-          (turn-holds (now (a .file)) (now (a .inputs)) (a .first) (now (a .past)) (at .loop .values) (at .loop .i) (at .loop .j) l (inv .2) (inv .3) e (inv .1) few),
-      below-more _ _ (inv .4)
-          (turn-inside (now (a .file)) (now (a .inputs)) (a .first) (now (a .past)) (at .loop .values) (at .loop .i) (at .loop .j) l (inv .2) (inv .3) e),
+      found-is
+          ∙ turn-found (now (a .file)) (now (a .inputs)) (a .first) (now (a .past)) (at .loop .values) (at .loop .i) (at .loop .j) l (inv .2) (at .loop .outside) (inv .3) (inv .4),
+      λ e.
+          rw (toZ-ofZ f, number-is)
+          (turn-holds (now (a .file)) (now (a .inputs)) (a .first) (now (a .past)) (at .loop .values) (at .loop .i) (at .loop .j) l (inv .2) (at .loop .outside) (inv .4) (inv .1) few (sym found-is ∙ e)),
     )
 
-returns-2 : tie.Need-returns-2 Inv-loop μ-loop
-returns-2 c =
+returns : tie.Need-returns Inv-loop μ-loop
+returns c =
     let at = c .before in
     let s = at .before .before in
     let a = s .args in
     let inv = at .loop .inv in
-    let i-is : at .loop .i ≡ streamsOf (now (a .file)) = omega (arith, s .pre .0) in
+    let i-is : at .loop .i ≡ a .n = omega arith in
     let few : streamsOf (now (a .file)) ≤ 64 = omega (arith, s .pre .0) in (
-      sym (none _ _ (λ k l. inv .4 k (omega arith))),
-      λ n.
+      inv .3 ∙ ap (lowest _) i-is,
+      λ e.
           holds-end (now (a .file)) (now (a .inputs)) (a .first) (now (a .past)) (at .loop .values) (inv .1) few
-          (subst (Holds (now (a .file)) (now (a .inputs)) (a .first) (now (a .past)) (at .loop .values)) i-is (inv .3)),
+          (subst (Holds (now (a .file)) (now (a .inputs)) (a .first) (now (a .past)) (at .loop .values)) (i-is ∙ s .pre .0) (inv .4 e)),
     )
 
 pub worked-out-spec : {M : Type 1} → statement M
@@ -123,13 +115,13 @@ worked-out-spec =
     loop-holds
     slice-aggregate-value-of
     value-of-requires
-    enum-known-v
+    is-inside-requires
+    or-at-requires
+    number-of-requires
     mul-values
     array-set-from-values
-    enum-told
-    returns
     with-record-requires
     add-i
     loop-less
     loop-again
-    returns-2)
+    returns)
