@@ -1,5 +1,4 @@
 pub mod Demands
-pub mod Kept
 pub mod Outcomes
 pub mod SameSessions
 pub mod Telling

@@ -45,8 +45,9 @@ use Rattle.capi.specs.declared.told.Told.{Told}
 use Rattle.capi.specs.declared.answered.BegunRecord.{BegunRecord}
 use Rattle.capi.specs.Answers.{toldNode}
 use Rattle.capi.specs.Records.{recordBegun}
-use Rattle.capi.proofs.Kept.{mach, RecordIs, record-fits, record-own, opened, closed, freed}
+use Rattle.session.proofs.Kept.{Lent, mach, Held, fits, made, opened, closed, freed}
 use Rattle.capi.proofs.records.SessionRecord as Record
+use Rattle.capi.proofs.records.SessionRecord.Laws as Record′
 use Rattle.capi.proofs.told.Told as Answer
 use Rattle.capi.proofs.told.Told.Laws as Answer′
 use Rattle.capi.proofs.answered.BegunRecord as Result
@@ -63,6 +64,10 @@ use Rattle.capi.proofs.lent.conuhawe_begin.Code as code
 abbrev stayed : Stays (me.ended .signature .params) (me.ended .kept)
 stayed = (stay-ref (0 ∷ []) tt (plain (λ _. Record.the-row)), (stay-none-slice (1 ∷ []) tt (plain (λ _. u8)) yes, tt))
 
+-- the record that is lent
+abbrev lent : Lent
+lent = record { type = Record.the-type; laws = Record′.the-laws; plain = Record′.the-plain }
+
 -- the contract that the walk cites
 abbrev Callee : {M : Type 1} (𝓤 : URA M) (H : Heap 𝓤) (A : Atoms 𝓤) (mem : Memory → SProp 𝓤) (run : Routine → Fun 𝓤) → Contract 𝓤
 Callee 𝓤 H A mem run = tripleOf 𝓤 H A callee.signature (callee.spec 𝓤 H A mem run)
@@ -78,7 +83,7 @@ AnswerIs n = Is Answer.the-row n (answer-val n ∷ [])
 answer-is : (r : BegunRecord) (w : Val) → Is Result.the-row r (w ∷ []) → AnswerIs (r .answer)
 answer-is r w g = LL.owed Result.the-type Result′.the-laws r _ g .0
 
-record-is : (r : BegunRecord) (w : Val) → Is Result.the-row r (w ∷ []) → RecordIs (r .record)
+record-is : (r : BegunRecord) (w : Val) → Is Result.the-row r (w ∷ []) → Held lent (r .record)
 record-is r w g = LL.owed Result.the-type Result′.the-laws r _ g .1 .0
 
 module _ {M : Type 1} (𝓤 : URA M) (H : Heap 𝓤) (A : Atoms 𝓤) (W : Given 𝓤 H A) (at-mem : Memory → SProp 𝓤) (run : Routine → Fun 𝓤) (κ κ₁ : Lft) (q q₁ : Share) (b o : ℕ) (γ : GName) (h : SessionRecord) (x : RefT (List ℕ)) where
@@ -106,10 +111,10 @@ module _ {M : Type 1} (𝓤 : URA M) (H : Heap 𝓤) (A : Atoms 𝓤) (W : Given
 
   -- the call: what it is passed, what it asks, and what is known of its result
   abbrev to-callee : Callee 𝓤 H A at-mem run .Ghost
-  to-callee = (((κ₁, tt), (q₁, tt), tt, (h, (x, tt)), (mach h ∷ [], (sx ∷ [], tt))), tt)
+  to-callee = (((κ₁, tt), (q₁, tt), tt, (h, (x, tt)), (mach lent h ∷ [], (sx ∷ [], tt))), tt)
 
-  goes : RecordIs h → ent 𝓤 (⋆ 𝓤 H A (Toks ∷ ‵ OwnX ∷ [])) (Callee 𝓤 H A at-mem run .pre to-callee)
-  goes g = qed W (Toks ∷ ‵ OwnX ∷ []) ∵ nothing ! $ move ! (2 ∷ 0 ∷ []) $ fjoin ! $ record-own ! h g $ fjoin ! $ move ! (1 ∷ 0 ∷ []) $ join ! $ frame ! $ done !
+  goes : Held lent h → ent 𝓤 (⋆ 𝓤 H A (Toks ∷ ‵ OwnX ∷ [])) (Callee 𝓤 H A at-mem run .pre to-callee)
+  goes g = qed W (Toks ∷ ‵ OwnX ∷ []) ∵ nothing ! $ move ! (2 ∷ 0 ∷ []) $ fjoin ! $ made lent ! h g $ fjoin ! $ move ! (1 ∷ 0 ∷ []) $ join ! $ frame ! $ done !
 
   abbrev Said : BegunRecord → Type 0
   Said r = (r .answer ≡ toldNode (verdictOf (now x))) × (r .record ≡ recordBegun (now x) h)
@@ -132,9 +137,9 @@ module _ {M : Type 1} (𝓤 : URA M) (H : Heap 𝓤) (A : Atoms 𝓤) (W : Given
         qed W ((‵ (flft κ q) ⊛ Toks) ∷ ‵ (owns (MutRef (named 0) κ Record.the-row ∷ ShrSlice (named 1) κ₁ u8 ∷ []) a vals) ∷ []) ∵ enter ! C Λ code.function (vptr b o ∷ sx ∷ []) _ $
         alloc1 ! (λ l₀. alloc1 ! (λ l₁. alloc1 ! (λ l₂. alloc1 ! (λ l₃. alloc1 ! (λ l₄. alloc0 ! $ params1 ! $ pass1 ! (init ! 6 refl (tt, tt)) $ pass1 ! (init ! 4 refl (shr-slice-lawful 𝓤 H A W (named 1) κ₁ u8 .typed x (sx ∷ []) px .0)) $ pass0 ! $
         -- the borrow is opened
-        move ! (11 ∷ []) $ fsplit ! $ fsplit3 ! $ drop ! $ move ! (13 ∷ []) $ split ! $ move ! (2 ∷ 3 ∷ 0 ∷ []) $ opened ! tt h b o (λ g.
+        move ! (11 ∷ []) $ fsplit ! $ fsplit3 ! $ drop ! $ move ! (13 ∷ []) $ split ! $ move ! (2 ∷ 3 ∷ 0 ∷ []) $ opened lent ! tt h b o (λ g.
         -- [the record's cell; the open borrow; obs; auth; Toks; what the slice owns; _4; …; _3; …; _2; …; _1; …; room for _0; …]
-        assigns ! (of-opd ! (load ! (from ! (hop ! (look ! 12 refl) (stop !))) (look-raw ! 0 refl))) (from ! (stop !)) (init ! 6 refl (record-fits 𝓤 H A W h g)) $
+        assigns ! (of-opd ! (load ! (from ! (hop ! (look ! 12 refl) (stop !))) (look-raw ! 0 refl))) (from ! (stop !)) (init ! 6 refl (fits lent 𝓤 H A W h g .0)) $
         -- the call
         move ! (5 ∷ []) $ fsplit ! $ use1 W (‵ OwnX ⊛ ‵ OwnX) (shr-slice-copy 𝓤 H A W (named 1) κ₁ u8 .twice x (sx ∷ [])) $ split ! $
         move ! (7 ∷ 0 ∷ []) $ use2 W (raw (Callee 𝓤 H A at-mem run .pre to-callee)) (goes g) $
@@ -143,10 +148,10 @@ module _ {M : Type 1} (𝓤 : URA M) (H : Heap 𝓤) (A : Atoms 𝓤) (W : Given
         split ! $ move ! (1 ∷ []) $ use1 W (raw (fact 𝓤 (Said r))) (said r) $ heard ! (Said r) (λ e. split ! $ move ! (1 ∷ []) $ peeks ! Result.the-row (Is Result.the-row) (shows 𝓤 H A Result.the-row) r (w ∷ []) (λ is. drop ! $
         -- [Toks; what the slice owns; true; the record's cell; the open borrow; obs; auth; _4; …]: the result is spelled out, and its parts stored
         land ! (from ! (stop !)) (init ! 9 refl (LL.lawful Result.the-type Result′.the-laws 𝓤 H A W .typed r _ is .0)) $ rewrite ! 9 (λ (u : Val). ‵ (fat fullShare Result′.mir l₃ 0 u)) (ap only (LL.tells Result.the-type Result′.the-laws r _ is)) refl $
-        assigns ! (of-opd ! (load ! (from ! (fld ! refl (stop !))) (look-in ! 9 (sub ! 1 refl (whole !))))) (from ! (hop ! (look ! 13 refl) (stop !))) (store-raw ! 3 refl (record-fits 𝓤 H A W (r .record) (record-is r w is))) $
+        assigns ! (of-opd ! (load ! (from ! (fld ! refl (stop !))) (look-in ! 9 (sub ! 1 refl (whole !))))) (from ! (hop ! (look ! 13 refl) (stop !))) (store-raw ! 3 refl (fits lent 𝓤 H A W (r .record) (record-is r w is) .0)) $
         assigns ! (of-opd ! (load ! (from ! (fld ! refl (stop !))) (look-in ! 9 (sub ! 0 refl (whole !))))) (from ! (stop !)) (init ! 15 refl (LL.lawful Answer.the-type Answer′.the-laws 𝓤 H A W .typed (r .answer) _ (answer-is r w is) .0)) $
         -- the borrow is closed at the new record
-        move ! (3 ∷ 4 ∷ 5 ∷ 6 ∷ []) $ closed ! tt (r .record) (record-is r w is) b o $
+        move ! (3 ∷ 4 ∷ 5 ∷ 6 ∷ []) $ closed lent ! tt (r .record) (record-is r w is) b o $
         returns ! (look ! 14 refl) $ move ! (14 ∷ 15 ∷ 12 ∷ 13 ∷ 10 ∷ 11 ∷ 8 ∷ 9 ∷ 6 ∷ 7 ∷ []) $ freed ! $ freed ! $ freed ! $ freed ! $ freed ! $ free0 ! $
         keep ! (0 ∷ 1 ∷ 2 ∷ 3 ∷ 4 ∷ []) $ by ! (exits r e (answer-is r w is))))))))))))
 

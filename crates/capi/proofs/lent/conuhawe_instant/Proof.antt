@@ -46,8 +46,9 @@ use Rattle.capi.specs.declared.told.Told.{Told}
 use Rattle.capi.specs.declared.answered.SteppedRecord.{SteppedRecord}
 use Rattle.capi.specs.Answers.{toldInstant}
 use Rattle.capi.specs.Records.{answerOn, recordAfter, sliceAfter}
-use Rattle.capi.proofs.Kept.{mach, RecordIs, record-fits, record-own, opened, closed, freed}
+use Rattle.session.proofs.Kept.{Lent, mach, Held, fits, made, opened, closed, freed}
 use Rattle.capi.proofs.records.SessionRecord as Record
+use Rattle.capi.proofs.records.SessionRecord.Laws as Record′
 use Rattle.capi.proofs.told.Told as Answer
 use Rattle.capi.proofs.told.Told.Laws as Answer′
 use Rattle.capi.proofs.answered.SteppedRecord as Result
@@ -64,6 +65,10 @@ use Rattle.capi.proofs.lent.conuhawe_instant.Code as code
 abbrev stayed : Stays (me.ended .signature .params) (me.ended .kept)
 stayed = (stay-ref (0 ∷ []) tt (plain (λ _. Record.the-row)), (stay-none-slice (1 ∷ []) tt (plain (λ _. i64)) yes, (gave-slice (2 ∷ []) tt (plain (λ _. i64)), tt)))
 
+-- the record that is lent
+abbrev lent : Lent
+lent = record { type = Record.the-type; laws = Record′.the-laws; plain = Record′.the-plain }
+
 -- the contract that the walk cites
 abbrev Callee : {M : Type 1} (𝓤 : URA M) (H : Heap 𝓤) (A : Atoms 𝓤) (mem : Memory → SProp 𝓤) (run : Routine → Fun 𝓤) → Contract 𝓤
 Callee 𝓤 H A mem run = tripleOf 𝓤 H A callee.signature (callee.spec 𝓤 H A mem run)
@@ -79,7 +84,7 @@ AnswerIs n = Is Answer.the-row n (answer-val n ∷ [])
 answer-is : (r : SteppedRecord) (w : Val) → Is Result.the-row r (w ∷ []) → AnswerIs (r .answer)
 answer-is r w g = LL.owed Result.the-type Result′.the-laws r _ g .0
 
-record-is : (r : SteppedRecord) (w : Val) → Is Result.the-row r (w ∷ []) → RecordIs (r .record)
+record-is : (r : SteppedRecord) (w : Val) → Is Result.the-row r (w ∷ []) → Held lent (r .record)
 record-is r w g = LL.owed Result.the-type Result′.the-laws r _ g .1 .0
 
 module _ {M : Type 1} (𝓤 : URA M) (H : Heap 𝓤) (A : Atoms 𝓤) (W : Given 𝓤 H A) (at-mem : Memory → SProp 𝓤) (run : Routine → Fun 𝓤) (κ κ₁ κ₂ : Lft) (q q₁ q₂ : Share) (b o : ℕ) (γ : GName) (h : SessionRecord) (x y : RefT (List ℤ)) where
@@ -113,11 +118,11 @@ module _ {M : Type 1} (𝓤 : URA M) (H : Heap 𝓤) (A : Atoms 𝓤) (W : Given
 
   -- the call: what it is passed, what it asks, and what is known of its result and of the last list
   abbrev to-callee : Callee 𝓤 H A at-mem run .Ghost
-  to-callee = (((κ₁, (κ₂, tt)), (q₁, (q₂, tt)), tt, (h, (x, (y, tt))), (mach h ∷ [], (sx ∷ [], (sy ∷ [], tt)))), tt)
+  to-callee = (((κ₁, (κ₂, tt)), (q₁, (q₂, tt)), tt, (h, (x, (y, tt))), (mach lent h ∷ [], (sx ∷ [], (sy ∷ [], tt)))), tt)
 
-  goes : RecordIs h → ent 𝓤 (⋆ 𝓤 H A (Toks ∷ ‵ OwnX ∷ ‵ OwnY ∷ [])) (Callee 𝓤 H A at-mem run .pre to-callee)
+  goes : Held lent h → ent 𝓤 (⋆ 𝓤 H A (Toks ∷ ‵ OwnX ∷ ‵ OwnY ∷ [])) (Callee 𝓤 H A at-mem run .pre to-callee)
   goes g =
-      qed W (Toks ∷ ‵ OwnX ∷ ‵ OwnY ∷ []) ∵ nothing ! $ move ! (3 ∷ 0 ∷ []) $ fjoin ! $ move ! (2 ∷ 0 ∷ []) $ fjoin ! $ record-own ! h g $ fjoin ! $ move ! (1 ∷ 0 ∷ []) $ join ! $ frame ! $ done !
+      qed W (Toks ∷ ‵ OwnX ∷ ‵ OwnY ∷ []) ∵ nothing ! $ move ! (3 ∷ 0 ∷ []) $ fjoin ! $ move ! (2 ∷ 0 ∷ []) $ fjoin ! $ made lent ! h g $ fjoin ! $ move ! (1 ∷ 0 ∷ []) $ join ! $ frame ! $ done !
 
   abbrev Said : SteppedRecord → List ℤ → Type 0
   Said r zs = (r .answer ≡ toldInstant (answerOn h (now x) (length (now y)))) × (r .record ≡ recordAfter h (now x) (length (now y))) × (zs ≡ sliceAfter h (now x) (now y))
@@ -138,9 +143,9 @@ module _ {M : Type 1} (𝓤 : URA M) (H : Heap 𝓤) (A : Atoms 𝓤) (W : Given
         alloc1 ! (λ l₀. alloc1 ! (λ l₁. alloc1 ! (λ l₂. alloc1 ! (λ l₃. alloc1 ! (λ l₄. alloc1 ! (λ l₅. alloc1 ! (λ l₆. alloc1 ! (λ l₇. alloc0 ! $ params1 ! $ pass1 ! (init ! 12 refl (tt, tt)) $
         pass1 ! (init ! 10 refl (shr-slice-lawful 𝓤 H A W (named 1) κ₁ i64 .typed x (sx ∷ []) px .0)) $ pass1 ! (init ! 8 refl (mut-slice-lawful 𝓤 H A W (named 2) κ₂ i64 .typed y (sy ∷ []) py .0)) $ pass0 ! $
         -- the borrow is opened
-        move ! (17 ∷ []) $ fsplit ! $ fsplit3 ! $ drop ! $ move ! (19 ∷ []) $ split ! $ move ! (2 ∷ 3 ∷ 0 ∷ []) $ opened ! tt h b o (λ g.
+        move ! (17 ∷ []) $ fsplit ! $ fsplit3 ! $ drop ! $ move ! (19 ∷ []) $ split ! $ move ! (2 ∷ 3 ∷ 0 ∷ []) $ opened lent ! tt h b o (λ g.
         -- [the record's cell; the open borrow; obs; auth; Toks; what the slices own; _7; …; _6; …; _5; …; _4; …; _3; …; _2; …; _1; …; room for _0; …]
-        assigns ! (of-opd ! (load ! (from ! (hop ! (look ! 18 refl) (stop !))) (look-raw ! 0 refl))) (from ! (stop !)) (init ! 10 refl (record-fits 𝓤 H A W h g)) $
+        assigns ! (of-opd ! (load ! (from ! (hop ! (look ! 18 refl) (stop !))) (look-raw ! 0 refl))) (from ! (stop !)) (init ! 10 refl (fits lent 𝓤 H A W h g .0)) $
         assigns ! (addr ! (from ! (fld ! refl (hop ! (look-in ! 14 (sub ! 0 refl (whole !))) (stop !))))) (from ! (stop !)) (init ! 8 refl (tt, tt)) $
         assigns ! (agg ! (and-then ! (load ! (from ! (stop !)) (look ! 8 refl)) (and-then ! (load ! (from ! (fld ! refl (stop !))) (look-in ! 14 (sub ! 1 refl (whole !)))) (no-more !)))) (from ! (stop !)) (init ! 6 refl (mut-slice-lawful 𝓤 H A W (named 2) κ₂ i64 .typed y (sy ∷ []) py .0)) $
         -- the call
@@ -153,10 +158,10 @@ module _ {M : Type 1} (𝓤 : URA M) (H : Heap 𝓤) (A : Atoms 𝓤) (W : Given
         move ! (2 ∷ []) $ split ! $ move ! (1 ∷ []) $ peeks ! Result.the-row (Is Result.the-row) (shows 𝓤 H A Result.the-row) r (w ∷ []) (λ is. drop ! $
         -- [Toks; the last list; true; true; what the slice of inputs owns; the record's cell; the open borrow; obs; auth; _7; …]: the result is spelled out, and its parts stored
         land ! (from ! (stop !)) (init ! 15 refl (LL.lawful Result.the-type Result′.the-laws 𝓤 H A W .typed r _ is .0)) $ rewrite ! 15 (λ (u : Val). ‵ (fat fullShare Result′.mir l₄ 0 u)) (ap only (LL.tells Result.the-type Result′.the-laws r _ is)) refl $
-        assigns ! (of-opd ! (load ! (from ! (fld ! refl (stop !))) (look-in ! 15 (sub ! 1 refl (whole !))))) (from ! (hop ! (look ! 21 refl) (stop !))) (store-raw ! 5 refl (record-fits 𝓤 H A W (r .record) (record-is r w is))) $
+        assigns ! (of-opd ! (load ! (from ! (fld ! refl (stop !))) (look-in ! 15 (sub ! 1 refl (whole !))))) (from ! (hop ! (look ! 21 refl) (stop !))) (store-raw ! 5 refl (fits lent 𝓤 H A W (r .record) (record-is r w is) .0)) $
         assigns ! (of-opd ! (load ! (from ! (fld ! refl (stop !))) (look-in ! 15 (sub ! 0 refl (whole !))))) (from ! (stop !)) (init ! 23 refl (LL.lawful Answer.the-type Answer′.the-laws 𝓤 H A W .typed (r .answer) _ (answer-is r w is) .0)) $
         -- the borrow is closed at the new record
-        move ! (5 ∷ 6 ∷ 7 ∷ 8 ∷ []) $ closed ! tt (r .record) (record-is r w is) b o $
+        move ! (5 ∷ 6 ∷ 7 ∷ 8 ∷ []) $ closed lent ! tt (r .record) (record-is r w is) b o $
         returns ! (look ! 22 refl) $ move ! (22 ∷ 23 ∷ 20 ∷ 21 ∷ 18 ∷ 19 ∷ 16 ∷ 17 ∷ 14 ∷ 15 ∷ 12 ∷ 13 ∷ 10 ∷ 11 ∷ 8 ∷ 9 ∷ []) $ freed ! $ freed ! $ freed ! $ freed ! $ freed ! $ freed ! $ freed ! $ freed ! $ free0 ! $
         keep ! (0 ∷ 1 ∷ 2 ∷ 3 ∷ 7 ∷ 4 ∷ []) $ by ! (exits r (zs .1 .1 .0) e l (answer-is r w is)))))))))))))))))
 
