@@ -9,7 +9,7 @@ use Rattle.node.specs.declared.equation.Kind.{Kind}
 use Rattle.node.specs.declared.equation.Kind.the-variants.{Bool as BoolKind, Int as IntKind}
 use Rattle.node.specs.declared.equation.Equation.{Equation}
 use Rattle.node.specs.declared.equation.Equation.the-variants.{Input, Constant, Not, And, Or, Same, Sum, Difference, Multiple, AtMost, Equal, If, Arrow, FollowedBy}
-use Rattle.node.specs.Layout.{recordOf, typeOf}
+use Rattle.node.specs.Layout.{recordOf, typeOf, recordAmong, typeAmong}
 
 -- "type byte (0 bool, 1 int)"
 abbrev pub kindOf : ℕ → Kind
@@ -45,3 +45,10 @@ decoded r = getD (equations r) (r .op) Input
 -- the equation of stream i
 abbrev pub equationAt : List ℕ → ℕ → Equation
 equationAt s i = decoded (recordOf s i)
+
+-- type and equation of stream i of n
+unfoldable pub kindAmong : List ℕ → (n i : ℕ) → Kind
+kindAmong s n i = kindOf (typeAmong s n i)
+
+abbrev pub equationAmong : List ℕ → (n i : ℕ) → Equation
+equationAmong s n i = decoded (recordAmong s n i)

@@ -5,11 +5,15 @@ use mathlib.Core.Bool.{Bool, not, cond, _&&_}
 use lib.Dec.{eqb}
 use Rattle.answers.specs.declared.Found.{Found}
 use Rattle.answers.specs.Checks.{lowest}
-use Rattle.node.specs.Layout.{recordOf, recordsOf}
+use Rattle.node.specs.Layout.{recordOf, recordsOf, recordAmong}
 
 -- record i is an input: its operator is 0
 abbrev pub isInput : List ℕ → ℕ → Bool
 isInput s i = eqb (recordOf s i .op) 0
+
+-- record i of n is an input
+abbrev pub isInputAmong : List ℕ → (n i : ℕ) → Bool
+isInputAmong s n i = eqb (recordAmong s n i .op) 0
 
 -- how many of the first i records are inputs
 abbrev pub withRecord : List ℕ → (i inputs : ℕ) → ℕ

@@ -71,3 +71,12 @@ recordOf s i = cond (ltb i (recordsOf s)) (recordAt s (startOf s + 16 * i)) empt
 -- the type byte of record i
 abbrev pub typeOf : List ℕ → ℕ → ℕ
 typeOf s i = recordOf s i .kind
+
+-- record i of n that stand before the trailer, where they fit the file. Of n = `recordsOf s` it is `recordOf s i`
+-- (proofs/Records.antt).
+unfoldable pub recordAmong : List ℕ → (n i : ℕ) → Record
+recordAmong s n i = cond (ltb i n && leb (sizeOf n) (length s)) (recordAt s (length s - sizeOf n + 16 * i)) emptyRecord
+
+-- the type byte of record i of n
+abbrev pub typeAmong : List ℕ → (n i : ℕ) → ℕ
+typeAmong s n i = recordAmong s n i .kind

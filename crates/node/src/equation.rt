@@ -1,9 +1,10 @@
 // The decoded record: its type, and its equation with stream numbers and constant.
 use crate::layout::Record;
-use crate::layout::record_of;
-use crate::layout::type_of;
+use crate::layout::record_among;
+use crate::layout::records_of;
+use crate::layout::type_among;
 ghost use mathlib.Core.Path.{_≡_};
-ghost use Rattle.node.specs.Equations.{kindAt, decoded, equationAt};
+ghost use Rattle.node.specs.Equations.{kindAt, decoded, equationAt, kindAmong, equationAmong};
 
 // The type of a stream.
 pub enum Kind {
@@ -59,20 +60,34 @@ pub fn decode(r: Record) -> Equation
     }
 }
 
+// The equation of stream i of n.
+pub fn equation_among(file: &[u8], n: usize, i: usize) -> Equation
+    ensures { λ r. ⌜ r ≡ equationAmong (now (file .entry)) n i ⌝ }
+{
+    decode(record_among(file, n, i))
+}
+
+// The type of stream i of n.
+pub fn kind_among(file: &[u8], n: usize, i: usize) -> Kind
+    ensures { λ r. ⌜ r ≡ kindAmong (now (file .entry)) n i ⌝ }
+{
+    if type_among(file, n, i) == 0 {
+        Kind::Bool
+    } else {
+        Kind::Int
+    }
+}
+
 // The equation of stream i.
 pub fn equation_of(file: &[u8], i: usize) -> Equation
     ensures { λ r. ⌜ r ≡ equationAt (now (file .entry)) i ⌝ }
 {
-    decode(record_of(file, i))
+    equation_among(file, records_of(file), i)
 }
 
 // The type of stream i.
 pub fn kind_of(file: &[u8], i: usize) -> Kind
     ensures { λ r. ⌜ r ≡ kindAt (now (file .entry)) i ⌝ }
 {
-    if type_of(file, i) == 0 {
-        Kind::Bool
-    } else {
-        Kind::Int
-    }
+    kind_among(file, records_of(file), i)
 }

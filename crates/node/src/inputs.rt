@@ -1,25 +1,34 @@
 // The inputs of a node, in record order.
-use crate::layout::record_of;
+use crate::layout::record_among;
 use crate::layout::records_of;
 use answers::Found;
 ghost use Prim.Native.Nat.{_<_, _^_};
 ghost use mathlib.Core.Path.{_≡_};
-ghost use Rattle.node.specs.Inputs.{isInput, withRecord, inputCount, inputRecord};
+ghost use Rattle.node.specs.Layout.{recordsOf};
+ghost use Rattle.node.specs.Inputs.{isInput, isInputAmong, withRecord, inputCount, inputRecord};
+
+// Record i of n is an input.
+pub fn is_input_among(file: &[u8], n: usize, i: usize) -> bool
+    ensures { λ r. ⌜ r ≡ isInputAmong (now (file .entry)) n i ⌝ }
+{
+    let record = record_among(file, n, i);
+    record.op == 0
+}
 
 // Record i is an input.
 pub fn is_input(file: &[u8], i: usize) -> bool
     ensures { λ r. ⌜ r ≡ isInput (now (file .entry)) i ⌝ }
 {
-    let record = record_of(file, i);
-    record.op == 0
+    is_input_among(file, records_of(file), i)
 }
 
-// The inputs counted so far, with record i.
-fn with_record(file: &[u8], i: usize, inputs: usize) -> usize
+// The inputs counted so far, with record i of a file of n.
+fn with_record(file: &[u8], n: usize, i: usize, inputs: usize) -> usize
+    requires { ⌜ n ≡ recordsOf (now file) ⌝ }
     requires { ⌜ inputs < 2 ^ 63 ⌝ }
     ensures { λ r. ⌜ r ≡ withRecord (now (file .entry)) i inputs ⌝ }
 {
-    if is_input(file, i) {
+    if is_input_among(file, n, i) {
         inputs + 1
     } else {
         inputs
@@ -34,7 +43,7 @@ pub fn input_count(file: &[u8]) -> usize
     let mut inputs = 0;
     let mut i = 0;
     while i < n {
-        inputs = with_record(file, i, inputs);
+        inputs = with_record(file, n, i, inputs);
         i += 1;
     }
     inputs
@@ -48,10 +57,10 @@ pub fn input_record(file: &[u8], j: usize) -> Found
     let mut inputs = 0;
     let mut i = 0;
     while i < n {
-        if is_input(file, i) & (inputs == j) {
+        if is_input_among(file, n, i) & (inputs == j) {
             return Found::At(i);
         }
-        inputs = with_record(file, i, inputs);
+        inputs = with_record(file, n, i, inputs);
         i += 1;
     }
     Found::Nothing

@@ -5,7 +5,7 @@ use fields::u32_at;
 ghost use Prim.Native.Nat.{_+_, _≤_};
 ghost use mathlib.Core.Path.{_≡_};
 ghost use lib.ListN.{length};
-ghost use Rattle.node.specs.Layout.{trailerOf, recordAt, recordsOf, recordOf, typeOf};
+ghost use Rattle.node.specs.Layout.{trailerOf, recordAt, recordsOf, recordAmong, typeAmong};
 
 // The last 16 bytes.
 pub struct Trailer {
@@ -78,13 +78,15 @@ pub fn records_of(file: &[u8]) -> usize
     n
 }
 
-// Record i, or the empty record where the file has none.
-pub fn record_of(file: &[u8], i: usize) -> Record
-    ensures { λ r. ⌜ r ≡ recordOf (now (file .entry)) i ⌝ }
+// Record i of n that stand before the trailer, or the empty record where there is none or they do not fit the file. Whoever reads
+// many records reads the trailer's n once.
+pub fn record_among(file: &[u8], n: usize, i: usize) -> Record
+    ensures { λ r. ⌜ r ≡ recordAmong (now (file .entry)) n i ⌝ }
 {
-    let n = records_of(file);
-    if i < n {
-        let start = file.len() - (16 + 16 * n);
+    let size = file.len();
+    // The records and the trailer, n + 1 times 16 bytes, fit the file.
+    if (i < n) & (n < size / 16) {
+        let start = size - (16 + 16 * n);
         record_at(file, start + 16 * i)
     } else {
         Record {
@@ -99,10 +101,10 @@ pub fn record_of(file: &[u8], i: usize) -> Record
     }
 }
 
-// The type byte of record i.
-pub fn type_of(file: &[u8], i: usize) -> u8
-    ensures { λ r. ⌜ r ≡ typeOf (now (file .entry)) i ⌝ }
+// The type byte of record i of n.
+pub fn type_among(file: &[u8], n: usize, i: usize) -> u8
+    ensures { λ r. ⌜ r ≡ typeAmong (now (file .entry)) n i ⌝ }
 {
-    let record = record_of(file, i);
+    let record = record_among(file, n, i);
     record.kind
 }

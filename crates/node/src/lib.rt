@@ -10,11 +10,14 @@ mod table;
 
 pub use equation::Equation;
 pub use equation::Kind;
+pub use equation::equation_among;
 pub use equation::equation_of;
+pub use equation::kind_among;
 pub use equation::kind_of;
 pub use file_note::note;
 pub use file_note::note_length;
 pub use inputs::input_count;
 pub use inputs::input_record;
 pub use inputs::is_input;
+pub use inputs::is_input_among;
 pub use reading::verdict;

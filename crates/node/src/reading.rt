@@ -1,7 +1,7 @@
 // The verdict on a node file: rules 1 to 8 in order, each over all its records first.
-use crate::layout::record_of;
+use crate::layout::record_among;
 use crate::layout::trailer_of;
-use crate::layout::type_of;
+use crate::layout::type_among;
 use crate::rules::counts_ok;
 use crate::rules::distance_ok;
 use crate::rules::fixed_ok;
@@ -17,6 +17,7 @@ use answers::Rule;
 ghost use mathlib.Core.Path.{_≡_};
 ghost use Rattle.answers.specs.Answer.{nodeAnswer};
 ghost use Rattle.answers.specs.Checks.{lowest};
+ghost use Rattle.node.specs.Layout.{recordsOf};
 ghost use Rattle.node.specs.Verdict.{passesOf, recordsVerdict, verdictOf};
 
 // The rules that each record is held to.
@@ -28,18 +29,20 @@ pub enum RecordRule {
 
 // Record i of a file of n streams keeps the rule.
 fn passes(file: &[u8], n: usize, rule: RecordRule, i: usize) -> bool
+    requires { ⌜ n ≡ recordsOf (now file) ⌝ }
     ensures { λ r. ⌜ r ≡ passesOf (now (file .entry)) n rule i ⌝ }
 {
-    let record = record_of(file, i);
+    let record = record_among(file, n, i);
     match rule {
         RecordRule::Shape => shape_ok(record),
         RecordRule::Operands => operands_ok(n, i, record),
-        RecordRule::Types => types_ok(file, record),
+        RecordRule::Types => types_ok(file, n, record),
     }
 }
 
 // The lowest record that breaks the rule.
 fn first_bad(file: &[u8], n: usize, rule: RecordRule) -> Found
+    requires { ⌜ n ≡ recordsOf (now file) ⌝ }
     ensures { λ r. ⌜ r ≡ lowest (passesOf (now (file .entry)) n rule) n ⌝ }
 {
     let mut left = n;
@@ -55,6 +58,7 @@ fn first_bad(file: &[u8], n: usize, rule: RecordRule) -> Found
 
 // Rules 5 to 8, of a file whose trailer gives n and the property.
 fn records_verdict(file: &[u8], n: usize, property: usize) -> NodeVerdict
+    requires { ⌜ n ≡ recordsOf (now file) ⌝ }
     ensures { λ r. ⌜ nodeAnswer r ≡ recordsVerdict (now (file .entry)) n property ⌝ }
 {
     if let Found::At(i) = first_bad(file, n, RecordRule::Shape) {
@@ -66,7 +70,7 @@ fn records_verdict(file: &[u8], n: usize, property: usize) -> NodeVerdict
     if let Found::At(i) = first_bad(file, n, RecordRule::Types) {
         return NodeVerdict::Refused(Rule::RecordTypes, Place::Record(i));
     }
-    if !property_ok(type_of(file, property)) {
+    if !property_ok(type_among(file, n, property)) {
         return NodeVerdict::Refused(Rule::PropertyType, Place::Record(property));
     }
     NodeVerdict::Accepted {

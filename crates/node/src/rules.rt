@@ -1,14 +1,14 @@
 // The rules of a node file, each as one test of the trailer or of a record.
 use crate::layout::Record;
 use crate::layout::Trailer;
-use crate::layout::type_of;
+use crate::layout::type_among;
 use crate::table::Limit;
 use crate::table::Row;
 use crate::table::Wanted;
 use crate::table::reads;
 use crate::table::row_of;
 ghost use mathlib.Core.Path.{_≡_};
-ghost use Rattle.node.specs.Layout.{typeOf};
+ghost use Rattle.node.specs.Layout.{typeAmong};
 ghost use Rattle.node.specs.Rules.{lengthOk, fixedOk, countsOk, distanceOk, within, constantOk, unusedOk, shapeOk, placed, operandsOk, hasType, typesOk, propertyOk};
 
 // Rule 1.
@@ -115,9 +115,9 @@ fn has_type(wanted: Wanted, own: u8, kind: u8) -> bool
     }
 }
 
-// Rule 7.
-pub fn types_ok(file: &[u8], r: Record) -> bool
-    ensures { λ z. ⌜ z ≡ typesOk (typeOf (now (file .entry))) r ⌝ }
+// Rule 7, in a file of n records.
+pub fn types_ok(file: &[u8], n: usize, r: Record) -> bool
+    ensures { λ z. ⌜ z ≡ typesOk (typeAmong (now (file .entry)) n) r ⌝ }
 {
     let row = row_of(r.op);
     let own = row.own;
@@ -125,9 +125,9 @@ pub fn types_ok(file: &[u8], r: Record) -> bool
     let b = row.b;
     let c = row.c;
     has_type(own, r.kind, r.kind)
-        & has_type(a, r.kind, type_of(file, r.a as usize))
-        & has_type(b, r.kind, type_of(file, r.b as usize))
-        & has_type(c, r.kind, type_of(file, r.c as usize))
+        & has_type(a, r.kind, type_among(file, n, r.a as usize))
+        & has_type(b, r.kind, type_among(file, n, r.b as usize))
+        & has_type(c, r.kind, type_among(file, n, r.c as usize))
 }
 
 // Rule 8.

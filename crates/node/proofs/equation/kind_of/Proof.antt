@@ -1,21 +1,19 @@
--- `node::kind_of` meets its contract: the type byte is 0, or it is not.
+-- `node::kind_of` meets its contract: the type, of as many records as the file has.
 -- Assumes nothing.
-use borrow.Author.Tests.{eq-eqb, ne-eqb}
-use Rattle.node.specs.Equations.{kindAt}
+use mathlib.Core.Path.{_∙_}
+use Rattle.node.proofs.Records.{kind-among}
 use borrow.Author.Needs.{needs}
 use Rattle.node.proofs.equation.kind_of.Statement.{statement}
 use Rattle.node.proofs.equation.kind_of.Tie as tie
 
-type-of-requires : tie.Need-type-of-requires
-type-of-requires c κs = search needs
+records-of-requires : tie.Need-records-of-requires
+records-of-requires c κs = search needs
+
+kind-among-requires : tie.Need-kind-among-requires
+kind-among-requires c κs = search needs
 
 returns : tie.Need-returns
-unfolding kindAt
-returns c = rw (← (c .before .type-of .ensures), eq-eqb _ _ (c .if1 .taken))
-
-returns-2 : tie.Need-returns-2
-unfolding kindAt
-returns-2 c = rw (← (c .before .type-of .ensures), ne-eqb _ _ (c .if1 .left))
+returns c = c .kind-among .ensures ∙ kind-among _ _ (c .before .records-of .ensures) _
 
 pub kind-of-spec : {M : Type 1} → statement M
-kind-of-spec = tie.close (tie.spec type-of-requires returns returns-2)
+kind-of-spec = tie.close (tie.spec records-of-requires kind-among-requires returns)

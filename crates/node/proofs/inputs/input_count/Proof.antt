@@ -26,7 +26,7 @@ loop-holds c = (c .records-of .ensures, search needs, refl)
 with-record-requires : tie.Need-with-record-requires Inv-loop μ-loop
 with-record-requires c κs =
     let inv = c .before .loop .inv in
-    inputs-few _ _ _ _ (inv .0) (c .loop-test .taken) (inv .2) (c .before .before .before .before .good .0 .0)
+    (inv .0, inputs-few _ _ _ _ (inv .0) (c .loop-test .taken) (inv .2) (c .before .before .before .before .good .0 .0))
 
 add-i : tie.Need-add-i Inv-loop μ-loop
 add-i c = search needs

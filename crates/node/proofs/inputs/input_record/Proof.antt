@@ -13,6 +13,7 @@ use Rattle.answers.proofs.Lowest.{none, found}
 use Rattle.node.specs.Inputs.{inputsBelow, isInputNumber}
 use Rattle.node.specs.Layout.{recordsOf}
 use Rattle.node.proofs.InputCounts.{inputs-few, inputs-more}
+use Rattle.node.proofs.Records.{is-input-among}
 use Rattle.node.proofs.inputs.input_record.Statement.{statement}
 use Rattle.node.proofs.inputs.input_record.Tie as tie
 
@@ -30,13 +31,15 @@ loop-holds : tie.Need-loop-holds Inv-loop μ-loop
 unfolding inputsBelow
 loop-holds c = (c .records-of .ensures, search needs, refl, below-none _)
 
-is-input-requires : tie.Need-is-input-requires Inv-loop μ-loop
-is-input-requires c κs = search needs
+is-input-among-requires : tie.Need-is-input-among-requires Inv-loop μ-loop
+is-input-among-requires c κs = search needs
 
 -- the test that was made is the definition's
-number-is : (c : tie.After-is-input Inv-loop μ-loop) → isInputNumber (now (c .before .before .before .before .before .args .file)) (c .before .before .before .before .before .args .j) (c .before .before .loop .i) ≡ (c .is-input .result && eqb (c .before .before .loop .inputs) (c .before .before .before .before .before .args .j))
+number-is : (c : tie.After-is-input-among Inv-loop μ-loop) → isInputNumber (now (c .before .before .before .before .before .args .file)) (c .before .before .before .before .before .args .j) (c .before .before .loop .i) ≡ (c .is-input-among .result && eqb (c .before .before .loop .inputs) (c .before .before .before .before .before .args .j))
 unfolding isInputNumber
-number-is c = rw (c .is-input .ensures, c .before .before .loop .inv .2)
+number-is c =
+    let inv = c .before .before .loop .inv in
+    rw (c .is-input-among .ensures, is-input-among _ _ (inv .0) (c .before .before .loop .i), inv .2)
 
 returns : tie.Need-returns Inv-loop μ-loop
 returns c =
@@ -46,7 +49,7 @@ returns c =
 with-record-requires : tie.Need-with-record-requires Inv-loop μ-loop
 with-record-requires c κs =
     let inv = c .before .before .before .loop .inv in
-    inputs-few _ _ _ _ (inv .0) (c .before .before .loop-test .taken) (inv .2) (c .before .before .before .before .before .before .good .0 .0)
+    (inv .0, inputs-few _ _ _ _ (inv .0) (c .before .before .loop-test .taken) (inv .2) (c .before .before .before .before .before .before .good .0 .0))
 
 add-i : tie.Need-add-i Inv-loop μ-loop
 add-i c = search needs
@@ -76,7 +79,7 @@ input-record-spec =
     μ-loop
     records-of-requires
     loop-holds
-    is-input-requires
+    is-input-among-requires
     returns
     with-record-requires
     add-i

@@ -10,6 +10,7 @@ use Rattle.node.specs.declared.reading.RecordRule.the-variants.{Shape, O
 use Rattle.node.specs.Layout.{typeOf}
 use Rattle.node.specs.Rules.{propertyOk}
 use Rattle.node.specs.Verdict.{passesOf, recordsVerdict}
+use Rattle.node.proofs.Records.{type-among}
 use borrow.Author.Needs.{needs}
 use Rattle.node.proofs.reading.records_verdict.Statement.{statement}
 use Rattle.node.proofs.reading.records_verdict.Tie as tie
@@ -24,7 +25,9 @@ types-pass : (c : tie.After-enum-told3) → let a = c .before .before .before .b
 types-pass c = sym (c .before .before .first-bad3 .ensures) ∙ c .enum-told3 .given .1
 
 property-is : (c : tie.After-property-ok) → let a = c .before .before .before .before .before .before .before .before .before .before .before .before .args in propertyOk (typeOf (now (a .file)) (a .property)) ≡ c .property-ok .result
-property-is c = ap propertyOk (sym (c .before .type-of .ensures)) ∙ sym (c .property-ok .ensures)
+property-is c =
+    let s = c .before .before .before .before .before .before .before .before .before .before .before .before in
+    ap propertyOk (sym (c .before .type-among .ensures ∙ type-among _ _ (s .pre) _)) ∙ sym (c .property-ok .ensures)
 
 first-bad-requires : tie.Need-first-bad-requires
 first-bad-requires c κs = search needs
@@ -68,8 +71,8 @@ returns-3 c =
 enum-told-3 : tie.Need-enum-told-3
 enum-told-3 c = search needs
 
-type-of-requires : tie.Need-type-of-requires
-type-of-requires c κs = search needs
+type-among-requires : tie.Need-type-among-requires
+type-among-requires c κs = search needs
 
 property-ok-requires : tie.Need-property-ok-requires
 property-ok-requires c κs = search needs
@@ -102,7 +105,7 @@ records-verdict-spec =
     enum-known-i-3
     returns-3
     enum-told-3
-    type-of-requires
+    type-among-requires
     property-ok-requires
     returns-4
     returns-5)

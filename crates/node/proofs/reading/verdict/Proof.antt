@@ -7,9 +7,10 @@ use lib.ListN.{length}
 use borrow.Author.Tests.{not-true, not-false}
 use Rattle.node.specs.declared.layout.Trailer.{Trailer}
 use Rattle.node.specs.Layout.{trailerOf}
+use Rattle.node.specs.Outcome.{FileRules}
 use Rattle.node.specs.Rules.{lengthOk, fixedOk, countsOk, distanceOk}
 use Rattle.node.specs.Verdict.{verdictOf, recordsVerdict}
-use Rattle.node.proofs.FileRules.{long-enough}
+use Rattle.node.proofs.FileRules.{long-enough, sizes}
 use borrow.Author.Needs.{needs}
 use Rattle.node.proofs.reading.verdict.Statement.{statement}
 use Rattle.node.proofs.reading.verdict.Tie as tie
@@ -79,7 +80,17 @@ cast-records-verdict-2 : tie.Need-cast-records-verdict-2
 cast-records-verdict-2 c = search needs
 
 records-verdict-requires : tie.Need-records-verdict-requires
-records-verdict-requires c κs = search needs
+records-verdict-requires c κs =
+    let four = c .before .before in
+    let three = four .before .before in
+    let two = three .before .before in
+    let rules : FileRules (now (two .before .before .before .before .before .before .args .file)) = record {
+      size = length-passes (two .before .before .before);
+      fixed = fixed-is (two .before) ∙ not-false _ (two .if2 .left);
+      counts = counts-is (three .before) ∙ not-false _ (three .if3 .left);
+      distance = distance-is (four .before) ∙ not-false _ (four .if4 .left);
+    } in
+    ap (λ (t : Trailer). t .streams) (two .before .before .trailer-of .ensures) ∙ sym (sizes _ rules .records)
 
 returns-5 : tie.Need-returns-5
 unfolding verdictOf

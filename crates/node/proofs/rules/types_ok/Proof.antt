@@ -11,29 +11,29 @@ row-of-requires c κs = search needs
 has-type-requires : tie.Need-has-type-requires
 has-type-requires c κs = search needs
 
-cast-type-of : tie.Need-cast-type-of
-cast-type-of c = search needs
+cast-type-among : tie.Need-cast-type-among
+cast-type-among c = search needs
 
-type-of-requires : tie.Need-type-of-requires
-type-of-requires c κs = search needs
+type-among-requires : tie.Need-type-among-requires
+type-among-requires c κs = search needs
 
 has-type-requires-2 : tie.Need-has-type-requires-2
 has-type-requires-2 c κs = search needs
 
-cast-type-of-2 : tie.Need-cast-type-of-2
-cast-type-of-2 c = search needs
+cast-type-among-2 : tie.Need-cast-type-among-2
+cast-type-among-2 c = search needs
 
-type-of-requires-2 : tie.Need-type-of-requires-2
-type-of-requires-2 c κs = search needs
+type-among-requires-2 : tie.Need-type-among-requires-2
+type-among-requires-2 c κs = search needs
 
 has-type-requires-3 : tie.Need-has-type-requires-3
 has-type-requires-3 c κs = search needs
 
-cast-type-of-3 : tie.Need-cast-type-of-3
-cast-type-of-3 c = search needs
+cast-type-among-3 : tie.Need-cast-type-among-3
+cast-type-among-3 c = search needs
 
-type-of-requires-3 : tie.Need-type-of-requires-3
-type-of-requires-3 c κs = search needs
+type-among-requires-3 : tie.Need-type-among-requires-3
+type-among-requires-3 c κs = search needs
 
 has-type-requires-4 : tie.Need-has-type-requires-4
 has-type-requires-4 c κs = search needs
@@ -48,13 +48,13 @@ types-ok-spec =
     (tie.spec
     row-of-requires
     has-type-requires
-    cast-type-of
-    type-of-requires
+    cast-type-among
+    type-among-requires
     has-type-requires-2
-    cast-type-of-2
-    type-of-requires-2
+    cast-type-among-2
+    type-among-requires-2
     has-type-requires-3
-    cast-type-of-3
-    type-of-requires-3
+    cast-type-among-3
+    type-among-requires-3
     has-type-requires-4
     returns)
