@@ -1,12 +1,12 @@
 -- The note of a file: it is no longer than the file, and with the records and the trailer it is the file.
 -- Assumes nothing.
-use mathlib.Core.Path.{_≡_, _∙_, ap}
+use mathlib.Core.Path.{_≡_, sym, _∙_, ap}
 use mathlib.Core.List.{List, _++_}
 use Prim.Native.Nat.{ℕ, _-_, _≤_, zero-le}
 use native.Mathlib.Omega.{arith}
 use lib.ListN.{length, take, take-append-drop, length-drop}
 use Rattle.answers.specs.Answer.{Answer, accepted, refused, NodeValues}
-use Rattle.node.specs.Layout.{sizeOf}
+use Rattle.node.specs.Layout.{sizeOf, recordsOf}
 use Rattle.node.specs.Note.{noteLength, noteOf, withoutNote}
 use Rattle.node.specs.Verdict.{verdictOf}
 use Rattle.node.proofs.FileRules.{Sizes, sizes}
@@ -18,6 +18,10 @@ module _ (s : List ℕ) where
 
   pub accepted-room : {node : NodeValues} → verdictOf s ≡ accepted node → sizeOf (node .streams) ≤ length s
   accepted-room e = rw (ap (λ (node : NodeValues). node .streams) (accepted-values s e)) (accepted-sizes e .room)
+
+  -- the streams of an accepted file are all its records
+  pub accepted-count : {node : NodeValues} → verdictOf s ≡ accepted node → node .streams ≡ recordsOf s
+  accepted-count e = ap (λ (node : NodeValues). node .streams) (accepted-values s e) ∙ sym (accepted-sizes e .records)
 
   pub note-fits : noteLength s ≤ length s
   unfolding noteLength

@@ -3,10 +3,11 @@ use crate::Session;
 use crate::numbers::is_typed;
 use crate::numbers::number_at;
 use answers::NodeVerdict;
-use node::kind_of;
+use node::kind_among;
 use node::verdict;
 ghost use mathlib.Core.Path.{_≡_};
 ghost use Rattle.answers.specs.Checks.{every};
+ghost use Rattle.node.specs.Layout.{recordsOf};
 ghost use Rattle.session.specs.Working.{valueTyped, nodeIn, nodeHeld};
 
 // The node that a record holds: how many streams it has.
@@ -15,13 +16,14 @@ pub enum Held {
     NoNode,
 }
 
-// Each of the first n values fits its stream's type.
+// Each of the first n values fits its stream's type, in a file of n.
 fn are_typed(file: &[u8], values: &[i64], n: usize) -> bool
+    requires { ⌜ n ≡ recordsOf (now file) ⌝ }
     ensures { λ r. ⌜ r ≡ every (valueTyped (now (file .entry)) (now (values .entry))) n ⌝ }
 {
     let mut i = 0;
     while i < n {
-        if !is_typed(kind_of(file, i), number_at(values, i)) {
+        if !is_typed(kind_among(file, n, i), number_at(values, i)) {
             return false;
         }
         i += 1;

@@ -3,7 +3,7 @@ use crate::inputs::with_record;
 use crate::numbers::number_at;
 use answers::Found;
 use integers::Checked;
-use node::equation_of;
+use node::equation_among;
 use streams::value;
 ghost use Prim.Native.Nat.{_≤_};
 ghost use mathlib.Core.Path.{_≡_};
@@ -13,7 +13,7 @@ ghost use Rattle.integers.specs.Range.{checkedOf};
 ghost use Rattle.answers.specs.declared.Found.the-variants.{Nothing};
 ghost use Rattle.answers.specs.Checks.{lowest, orAt};
 ghost use Rattle.node.specs.Equations.{equationAt};
-ghost use Rattle.node.specs.Layout.{streamsOf};
+ghost use Rattle.node.specs.Layout.{streamsOf, recordsOf};
 ghost use Rattle.streams.specs.Meaning.{meaning};
 ghost use Rattle.streams.specs.Values.{valuesIn};
 ghost use Rattle.session.specs.Records.{filled};
@@ -58,9 +58,10 @@ fn or_at(found: Found, ok: bool, i: usize) -> Found
     }
 }
 
-// The value of stream i, whose input, if it is one, is the number j of them.
+// The value of stream i of n, whose input, if it is one, is the number j of them.
 fn value_of(
     file: &[u8],
+    n: usize,
     inputs: &[i64],
     first: bool,
     past: &[i64],
@@ -68,10 +69,11 @@ fn value_of(
     i: usize,
     j: usize,
 ) -> Checked
+    requires { ⌜ n ≡ recordsOf (now file) ⌝ }
     ensures { λ r. ⌜ r ≡ checkedOf (meaning (equationAt (now (file .entry)) i) (getD (now (inputs .entry)) j (pos 0)) first (valuesIn (now (past .entry))) (valuesIn (now (present .entry)))) ⌝ }
 {
     value(
-        equation_of(file, i),
+        equation_among(file, n, i),
         number_at(inputs, j),
         first,
         past,
@@ -81,7 +83,7 @@ fn value_of(
 
 // All n streams in record order, untaken branches too. Past one that 64 signed bits do not hold the array says nothing.
 pub fn worked_out(file: &[u8], inputs: &[i64], first: bool, past: &[i64], n: usize) -> Worked
-    requires { ⌜ (n ≡ streamsOf (now file)) × (n ≤ 64) ⌝ }
+    requires { ⌜ (n ≡ recordsOf (now file)) × (n ≡ streamsOf (now file)) × (n ≤ 64) ⌝ }
     ensures { λ r. ⌜ r .outside ≡ lowest (valueInside (instantOf (now (file .entry)) (now (inputs .entry)) first (now (past .entry)))) n ⌝ }
     ensures { λ r. ⌜ (r .outside ≡ Nothing → r .values ≡ filled 64 (pos 0) (instantOf (now (file .entry)) (now (inputs .entry)) first (now (past .entry)))) ⌝ }
 {
@@ -90,10 +92,10 @@ pub fn worked_out(file: &[u8], inputs: &[i64], first: bool, past: &[i64], n: usi
     let mut j = 0;
     let mut i = 0;
     while i < n {
-        let value = value_of(file, inputs, first, past, &values, i, j);
+        let value = value_of(file, n, inputs, first, past, &values, i, j);
         outside = or_at(outside, is_inside(value), i);
         values[i] = number_of(value);
-        j = with_record(file, i, j);
+        j = with_record(file, n, i, j);
         i += 1;
     }
     Worked { outside, values }

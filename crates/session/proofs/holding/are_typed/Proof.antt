@@ -8,6 +8,7 @@ use denote.Ref.{now}
 use borrow.Author.Tests.{not-true, not-false}
 use Rattle.answers.specs.Checks.{every}
 use Rattle.answers.proofs.Every.{every-none, every-more, every-not}
+use Rattle.node.proofs.Records.{kind-among}
 use Rattle.session.specs.Working.{valueTyped}
 use Rattle.session.proofs.Typed.{typed-is}
 use borrow.Author.Needs.{needs}
@@ -23,8 +24,8 @@ abbrev μ-loop : tie.MeasureT-loop
 loop-holds : tie.Need-loop-holds Inv-loop μ-loop
 loop-holds c = (search needs, every-none _)
 
-kind-of-requires : tie.Need-kind-of-requires Inv-loop μ-loop
-kind-of-requires c κs = search needs
+kind-among-requires : tie.Need-kind-among-requires Inv-loop μ-loop
+kind-among-requires c κs = search needs
 
 number-at-requires : tie.Need-number-at-requires Inv-loop μ-loop
 number-at-requires c κs = search needs
@@ -35,7 +36,9 @@ is-typed-requires c κs = search needs
 -- the test that was made is the definition's
 typed-made : (c : tie.After-is-typed Inv-loop μ-loop) → let s = c .before .before .before .before .before .before in c .is-typed .result ≡ valueTyped (now (s .args .file)) (now (s .args .values)) (c .before .before .before .before .loop .i)
 typed-made c =
-    typed-is _ _ (c .before .number-at .result) _ (search needs) (c .before .before .kind-of .ensures) (c .before .number-at .ensures) (c .is-typed .ensures)
+    let s = c .before .before .before .before .before .before in
+    let kind-is = c .before .before .kind-among .ensures ∙ kind-among _ _ (s .pre) _ in
+    typed-is _ _ (c .before .number-at .result) _ (search needs) kind-is (c .before .number-at .ensures) (c .is-typed .ensures)
 
 returns : tie.Need-returns Inv-loop μ-loop
 returns c = sym (every-not _ _ _ (c .before .before .before .before .loop-test .taken) (sym (typed-made (c .before)) ∙ not-true _ (c .if1 .taken)))
@@ -61,7 +64,7 @@ are-typed-spec =
     Inv-loop
     μ-loop
     loop-holds
-    kind-of-requires
+    kind-among-requires
     number-at-requires
     is-typed-requires
     returns

@@ -4,6 +4,7 @@ use mathlib.Core.Path.{_≡_, sym, _∙_, ap}
 use denote.Ref.{now}
 use Rattle.answers.specs.Answer.{accepted, nodeAnswer}
 use Rattle.node.specs.Verdict.{verdictOf}
+use Rattle.node.proofs.Notes.{accepted-count}
 use Rattle.session.proofs.HeldNodes.{typed, untyped, not-accepted}
 use borrow.Author.Needs.{needs}
 use Rattle.session.proofs.holding.node_in.Statement.{statement}
@@ -15,14 +16,14 @@ verdict-requires c κs = search needs
 enum-known-streams : tie.Need-enum-known-streams
 enum-known-streams c = search needs
 
-are-typed-requires : tie.Need-are-typed-requires
-are-typed-requires c κs = search needs
-
 enum-told : tie.Need-enum-told
 enum-told c = search needs
 
 accepted-is : (c : tie.After-known-told) → verdictOf (now (c .before .before .before .before .before .args .file)) ≡ accepted (record { streams = c .before .streams .given .0 .0; property = c .before .streams .given .0 .1 .0 })
 accepted-is c = sym (c .before .before .before .verdict .ensures) ∙ ap nodeAnswer (c .before .streams .given .1)
+
+are-typed-requires : tie.Need-are-typed-requires
+are-typed-requires c κs = accepted-count _ (accepted-is c)
 
 returns : tie.Need-returns
 returns c = typed _ _ _ (accepted-is (c .before .before)) (rw (c .before .are-typed .ensures) at (c .if1 .taken))

@@ -39,7 +39,10 @@ returns c =
     sym (found _ _ _ (c .before .before .loop-test .taken) (inv .2) (fits-is (c .before) ∙ not-true _ (c .if1 .taken)))
 
 with-record-requires : tie.Need-with-record-requires Inv-loop μ-loop
-with-record-requires c κs = omega (arith, inputs-le (now (c .before .before .before .before .before .args .file)) (c .before .before .before .loop .i), c .before .before .before .loop .inv .1)
+with-record-requires c κs =
+    let at = c .before .before .before in
+    let s = at .before .before in
+    (s .pre .0, omega (arith, inputs-le (now (s .args .file)) (at .loop .i), at .loop .inv .1, s .pre .1))
 
 add-i : tie.Need-add-i Inv-loop μ-loop
 add-i c = search needs

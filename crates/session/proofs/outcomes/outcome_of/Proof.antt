@@ -11,7 +11,7 @@ use lib.Seq.{length-take-le}
 use Rattle.answers.specs.declared.Found.the-variants.{Nothing}
 use Rattle.answers.specs.Checks.{lowest}
 use Rattle.node.specs.Inputs.{inputCount}
-use Rattle.node.specs.Layout.{streamsOf}
+use Rattle.node.specs.Layout.{streamsOf, recordsOf}
 use lib.IntN.{pos}
 use Prim.Native.Nat.{_≤_}
 use Rattle.session.specs.Records.{filled, held, holdsNode}
@@ -71,6 +71,9 @@ sized c = rw (one (told-of c) .1) at (eq-eqb _ _ (c .if2 .left))
 few : (c : tie.Else2) → told-of c .before .n .given .0 .0 ≤ 64
 few c = omega (arith, one (told-of c) .1, held-sizes _ (one (told-of c) .0) .few)
 
+counts : (c : tie.Else2) → told-of c .before .n .given .0 .0 ≡ recordsOf (held (told-of c .before .before .before .before .args .s))
+counts c = one (told-of c) .1 ∙ sym (held-sizes _ (one (told-of c) .0) .records)
+
 -- what the searches found is the definition's
 bad-is : (c : tie.After-first-bad) → let a = told-of (c .before) .before .before .before .before .args in lowest (inputFits (held (a .s)) (now (a .inputs))) (streamsOf (held (a .s))) ≡ c .first-bad .result
 bad-is c = ap (lowest _) (sym (one (told-of (c .before)) .1)) ∙ sym (c .first-bad .ensures)
@@ -100,7 +103,7 @@ returns-3 c =
     (answer-32 _ _ _ (one told .0) (counted at) (rw (one told .1) at (ne-eqb _ _ (c .before .if2 .taken))))
 
 first-bad-requires : tie.Need-first-bad-requires
-first-bad-requires c κs = few c
+first-bad-requires c κs = (counts c, few c)
 
 enum-known-i : tie.Need-enum-known-i
 enum-known-i c = search needs
@@ -122,7 +125,7 @@ slice-aggregate-worked-out : tie.Need-slice-aggregate-worked-out
 slice-aggregate-worked-out c = search needs
 
 worked-out-requires : tie.Need-worked-out-requires
-worked-out-requires c κs = let at = c .before .before .before .before .before in (one (told-of at) .1, few at)
+worked-out-requires c κs = let at = c .before .before .before .before .before in (counts at, one (told-of at) .1, few at)
 
 enum-known-outside : tie.Need-enum-known-outside
 enum-known-outside c = search needs

@@ -8,14 +8,15 @@ use mir.Val.{SFits}
 use mir.Facts.{toZ-ofZ}
 use Rattle.integers.specs.Range.{checkedOf}
 use Rattle.node.specs.declared.equation.Equation.{Equation}
+use Rattle.node.proofs.Records.{equation-among}
 use Rattle.streams.specs.Meaning.{meaning}
 use Rattle.streams.specs.Values.{valuesIn}
 use borrow.Author.Needs.{needs}
 use Rattle.session.proofs.values.value_of.Statement.{statement}
 use Rattle.session.proofs.values.value_of.Tie as tie
 
-equation-of-requires : tie.Need-equation-of-requires
-equation-of-requires c κs = search needs
+equation-among-requires : tie.Need-equation-among-requires
+equation-among-requires c κs = search needs
 
 number-at-requires : tie.Need-number-at-requires
 number-at-requires c κs = search needs
@@ -25,12 +26,13 @@ value-requires c κs = search needs
 
 returns : tie.Need-returns
 returns c =
-    let a = c .before .before .before .before .args in
+    let s = c .before .before .before .before in
+    let a = s .args in
     let f : SFits w64 (c .before .number-at .result) = search needs in
     c .value .ensures
     ∙ ap₂ (λ (e : Equation) (g : ℤ). checkedOf (meaning e g (a .first) (valuesIn (now (a .past))) (valuesIn (now (a .present)))))
-    (c .before .before .equation-of .ensures)
+    (c .before .before .equation-among .ensures ∙ equation-among _ _ (s .pre) _)
     (toZ-ofZ f ∙ c .before .number-at .ensures)
 
 pub value-of-spec : {M : Type 1} → statement M
-value-of-spec = tie.close (tie.spec equation-of-requires number-at-requires value-requires returns)
+value-of-spec = tie.close (tie.spec equation-among-requires number-at-requires value-requires returns)

@@ -61,7 +61,8 @@ array-set-from-values c = search needs
 with-record-requires : tie.Need-with-record-requires Inv-loop μ-loop
 with-record-requires c κs =
     let at = c .before .before .before .before .before .before in
-    omega (arith, inputs-le (now (at .before .before .args .file)) (at .loop .i), at .loop .inv .2)
+    let s = at .before .before in
+    (s .pre .0, omega (arith, inputs-le (now (s .args .file)) (at .loop .i), at .loop .inv .2, s .pre .2))
 
 add-i : tie.Need-add-i Inv-loop μ-loop
 add-i c = search needs
@@ -76,8 +77,8 @@ loop-again c =
     let s = at .before .before in
     let a = s .args in
     let inv = at .loop .inv in
-    let l : at .loop .i < streamsOf (now (a .file)) = omega (arith, s .pre .0) in
-    let few : streamsOf (now (a .file)) ≤ 64 = omega (arith, s .pre .0) in
+    let l : at .loop .i < streamsOf (now (a .file)) = omega (arith, s .pre .1, s .pre .2) in
+    let few : streamsOf (now (a .file)) ≤ 64 = omega (arith, s .pre .1, s .pre .2) in
     let made = or-at .before .before .value-of .ensures in
     let found-is = or-at .or-at .ensures ∙ ap (λ ok. orAt (at .loop .outside) ok (at .loop .i)) (or-at .before .is-inside .ensures ∙ ap isValue made) in
     let number-is = c .before .number-of .ensures ∙ ap numberIn made in
@@ -99,11 +100,11 @@ returns c =
     let a = s .args in
     let inv = at .loop .inv in
     let i-is : at .loop .i ≡ a .n = omega arith in
-    let few : streamsOf (now (a .file)) ≤ 64 = omega (arith, s .pre .0) in (
+    let few : streamsOf (now (a .file)) ≤ 64 = omega (arith, s .pre .1, s .pre .2) in (
       inv .3 ∙ ap (lowest _) i-is,
       λ e.
           holds-end (now (a .file)) (now (a .inputs)) (a .first) (now (a .past)) (at .loop .values) (inv .1) few
-          (subst (Holds (now (a .file)) (now (a .inputs)) (a .first) (now (a .past)) (at .loop .values)) (i-is ∙ s .pre .0) (inv .4 e)),
+          (subst (Holds (now (a .file)) (now (a .inputs)) (a .first) (now (a .past)) (at .loop .values)) (i-is ∙ s .pre .1) (inv .4 e)),
     )
 
 pub worked-out-spec : {M : Type 1} → statement M
