@@ -1,11 +1,11 @@
 // Whether a record holds a node.
-use crate::Session;
 use crate::numbers::is_typed;
 use crate::numbers::number_at;
 use answers::NodeVerdict;
 use node::kind_among;
 use node::verdict;
 ghost use mathlib.Core.Path.{_≡_};
+ghost use lib.ListN.{length};
 ghost use Rattle.answers.specs.Checks.{every};
 ghost use Rattle.node.specs.Layout.{recordsOf};
 ghost use Rattle.session.specs.Working.{valueTyped, nodeIn, nodeHeld};
@@ -50,15 +50,13 @@ fn node_in(file: &[u8], started: bool, last: &[i64]) -> Held
     }
 }
 
-// The node of a record. A record is anyone's to fill: its length is looked at before its file is.
-pub fn node_held(s: Session) -> Held
-    ensures { λ r. ⌜ r ≡ nodeHeld s ⌝ }
+// The node of a record with these parts. A record is anyone's to fill: its length is looked at before its file is.
+pub fn node_held(file: &[u8], size: usize, started: bool, last: &[i64]) -> Held
+    requires { ⌜ length (now file) ≡ 1040 ⌝ }
+    ensures { λ r. ⌜ r ≡ nodeHeld (record { file = now (file .entry); length = size; started = started; last = now (last .entry) }) ⌝ }
 {
-    let length = s.length;
-    if 1040 < length {
+    if 1040 < size {
         return Held::NoNode;
     }
-    let file = s.file;
-    let last = s.last;
-    node_in(&file[..length], s.started, &last)
+    node_in(&file[..size], started, last)
 }

@@ -36,12 +36,12 @@ pub fn outcome_of(s: Session, inputs: &[i64], room: usize) -> Outcome
     ensures { λ r. ⌜ instantAnswer (r .answer) ≡ answerOf s (now (inputs .entry)) room ⌝ }
     ensures { λ r. ⌜ (instantAnswer (r .answer) ≡ accepted tt → r .values ≡ filled 64 (pos 0) (workedOut s (now (inputs .entry)))) ⌝ }
 {
-    let Held::Streams(n) = node_held(s) else {
-        return refused(Rule::NoNode, Place::File);
-    };
     let length = s.length;
     let file = s.file;
     let last = s.last;
+    let Held::Streams(n) = node_held(&file, length, s.started, &last) else {
+        return refused(Rule::NoNode, Place::File);
+    };
     let node = &file[..length];
     if inputs.len() != input_count(node) {
         return refused(Rule::InputCount, Place::File);

@@ -21,8 +21,17 @@ use borrow.Author.Needs.{needs}
 use Rattle.session.proofs.outcomes.outcome_of.Statement.{statement}
 use Rattle.session.proofs.outcomes.outcome_of.Tie as tie
 
+file-long : (c : tie.Start) → length (c .args .s .file) ≡ 1040
+file-long c = simp length-map at (c .good .0 .1 .1 .0 .1 .0 .1)
+
+slice-aggregate-node-held : tie.Need-slice-aggregate-node-held
+slice-aggregate-node-held c = search needs
+
+slice-aggregate-node-held-2 : tie.Need-slice-aggregate-node-held-2
+slice-aggregate-node-held-2 c = search needs
+
 node-held-requires : tie.Need-node-held-requires
-node-held-requires c κs = search needs
+node-held-requires c κs = file-long (c .before .before .before .before)
 
 enum-known-n : tie.Need-enum-known-n
 enum-known-n c = search needs
@@ -33,15 +42,15 @@ enum-told c = search needs
 refused-requires : tie.Need-refused-requires
 refused-requires c κs = search needs
 
+abbrev start-of : tie.After-known-told → tie.Start
+start-of c = c .before .before .before .before .before .before .before .before
+
 -- the node that was found is the record's
-one : (c : tie.After-known-told) → let s = c .before .before .before .before .args .s in (holdsNode s ≡ true) × (c .before .n .given .0 .0 ≡ streamsOf (held s))
+one : (c : tie.After-known-told) → let s = start-of c .args .s in (holdsNode s ≡ true) × (c .before .n .given .0 .0 ≡ streamsOf (held s))
 one c = holds-one _ (sym (c .before .before .before .node-held .ensures) ∙ c .before .n .given .1)
 
-file-long : (c : tie.Start) → length (c .args .s .file) ≡ 1040
-file-long c = simp length-map at (c .good .0 .1 .1 .0 .1 .0 .1)
-
 abbrev told-of : tie.Else2 → tie.After-known-told
-told-of c = c .before .before .before .before .before .before
+told-of c = c .before .before .before .before
 
 returns : tie.Need-returns
 returns c =
@@ -49,12 +58,11 @@ returns c =
     (answer-30 _ _ _ (holds-none _ (sym (c .before .before .before .node-held .ensures) ∙ c .before .enum-told .given .1)))
 
 array-share-prefix-file : tie.Need-array-share-prefix-file
-array-share-prefix-file c = let told = c .before .before in omega (arith, file-long (told .before .before .before .before), held-short _ (one told .0))
+array-share-prefix-file c = omega (arith, file-long (start-of c), held-short _ (one c .0))
 
 slice-aggregate-node : tie.Need-slice-aggregate-node
 slice-aggregate-node c =
-    let told = c .before .before .before in
-    sym (length-take-le _ _ (omega (arith, file-long (told .before .before .before .before), held-short _ (one told .0))))
+    sym (length-take-le _ _ (omega (arith, file-long (start-of (c .before)), held-short _ (one (c .before) .0))))
 
 input-count-requires : tie.Need-input-count-requires
 input-count-requires c κs = search needs
@@ -62,26 +70,26 @@ input-count-requires c κs = search needs
 refused-requires-2 : tie.Need-refused-requires-2
 refused-requires-2 c κs = search needs
 
-counted : (c : tie.Else1) → let a = c .before .before .before .before .before .before .before .before .before .args in eqb (length (now (a .inputs))) (inputCount (held (a .s))) ≡ true
+counted : (c : tie.Else1) → let a = start-of (c .before .before .before) .args in eqb (length (now (a .inputs))) (inputCount (held (a .s))) ≡ true
 counted c = rw (c .before .input-count .ensures) at (eq-eqb _ _ (c .if1 .left))
 
-sized : (c : tie.Else2) → let a = told-of c .before .before .before .before .args in eqb (a .room) (streamsOf (held (a .s))) ≡ true
+sized : (c : tie.Else2) → let a = start-of (told-of c) .args in eqb (a .room) (streamsOf (held (a .s))) ≡ true
 sized c = rw (one (told-of c) .1) at (eq-eqb _ _ (c .if2 .left))
 
 few : (c : tie.Else2) → told-of c .before .n .given .0 .0 ≤ 64
 few c = omega (arith, one (told-of c) .1, held-sizes _ (one (told-of c) .0) .few)
 
-counts : (c : tie.Else2) → told-of c .before .n .given .0 .0 ≡ recordsOf (held (told-of c .before .before .before .before .args .s))
+counts : (c : tie.Else2) → told-of c .before .n .given .0 .0 ≡ recordsOf (held (start-of (told-of c) .args .s))
 counts c = one (told-of c) .1 ∙ sym (held-sizes _ (one (told-of c) .0) .records)
 
 -- what the searches found is the definition's
-bad-is : (c : tie.After-first-bad) → let a = told-of (c .before) .before .before .before .before .args in lowest (inputFits (held (a .s)) (now (a .inputs))) (streamsOf (held (a .s))) ≡ c .first-bad .result
+bad-is : (c : tie.After-first-bad) → let a = start-of (told-of (c .before)) .args in lowest (inputFits (held (a .s)) (now (a .inputs))) (streamsOf (held (a .s))) ≡ c .first-bad .result
 bad-is c = ap (lowest _) (sym (one (told-of (c .before)) .1)) ∙ sym (c .first-bad .ensures)
 
-typed : (c : tie.After-enum-told2) → let a = told-of (c .before .before .before) .before .before .before .before .args in lowest (inputFits (held (a .s)) (now (a .inputs))) (streamsOf (held (a .s))) ≡ Nothing
+typed : (c : tie.After-enum-told2) → let a = start-of (told-of (c .before .before .before)) .args in lowest (inputFits (held (a .s)) (now (a .inputs))) (streamsOf (held (a .s))) ≡ Nothing
 typed c = bad-is (c .before .before) ∙ c .enum-told2 .given .1
 
-outside-is : (c : tie.After-worked-out) → let a = told-of (c .before .before .before .before .before .before) .before .before .before .before .args in lowest (valueFits (a .s) (now (a .inputs))) (streamsOf (held (a .s))) ≡ c .worked-out .result .outside
+outside-is : (c : tie.After-worked-out) → let a = start-of (told-of (c .before .before .before .before .before .before)) .args in lowest (valueFits (a .s) (now (a .inputs))) (streamsOf (held (a .s))) ≡ c .worked-out .result .outside
 outside-is c =
     let at = c .before .before .before .before .before .before in
     ap (lowest _) (sym (one (told-of at) .1)) ∙ sym (fits-is _ _ _) ∙ sym (c .worked-out .ensures .0)
@@ -90,7 +98,7 @@ returns-2 : tie.Need-returns-2
 returns-2 c =
     let at = c .before .before in
     refusal _ _ _ _ (c .refused2 .ensures)
-    (answer-31 _ _ _ (one (at .before .before .before .before) .0) (rw (at .input-count .ensures) at (ne-eqb _ _ (c .before .if1 .taken))))
+    (answer-31 _ _ _ (one (at .before .before) .0) (rw (at .input-count .ensures) at (ne-eqb _ _ (c .before .if1 .taken))))
 
 refused-requires-3 : tie.Need-refused-requires-3
 refused-requires-3 c κs = search needs
@@ -98,7 +106,7 @@ refused-requires-3 c κs = search needs
 returns-3 : tie.Need-returns-3
 returns-3 c =
     let at = c .before .before in
-    let told = at .before .before .before .before .before in
+    let told = at .before .before .before in
     refusal _ _ _ _ (c .refused3 .ensures)
     (answer-32 _ _ _ (one told .0) (counted at) (rw (one told .1) at (ne-eqb _ _ (c .before .if2 .taken))))
 
@@ -158,6 +166,8 @@ pub outcome-of-spec : {M : Type 1} → statement M
 outcome-of-spec =
     tie.close
     (tie.spec
+    slice-aggregate-node-held
+    slice-aggregate-node-held-2
     node-held-requires
     enum-known-n
     enum-told
