@@ -1,9 +1,8 @@
 -- `node::passes` meets its contract: in each arm the test is that rule's, of the record that was read.
 -- Assumes nothing.
-use mathlib.Core.Path.{_≡_, _∙_, ap, fun-ext}
+use mathlib.Core.Path.{_≡_, _∙_, fun-ext}
 use denote.Ref.{now}
 use Rattle.node.specs.Layout.{recordOf}
-use Rattle.node.specs.Rules.{typesOk}
 use Rattle.node.proofs.Records.{record-among, type-among}
 use borrow.Author.Needs.{needs}
 use Rattle.node.proofs.reading.passes.Statement.{statement}
