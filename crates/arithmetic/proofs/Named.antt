@@ -1,22 +1,23 @@
 -- A variable that no term of a line names has coefficient 0, so that the sums are tested at the named ones alone.
 -- Assumes nothing.
-use mathlib.Core.Path.{_≡_, refl, sym, subst, _∙_, ap}
-use mathlib.Core.List.{List, _++_}
+use mathlib.Core.Path.{_≡_, refl, sym, subst, _∙_, ap, ap₂}
+use mathlib.Core.List.{List, [], _∷_, _++_}
 use mathlib.Core.Bool.{Bool, true, false, false≢true}
 use Prim.Native.Nat.{ℕ, zero, suc, _<_}
 use native.Mathlib.Nat.{le-refl}
 use native.Mathlib.Omega.{arith}
 use borrow.Author.Tests.{ne-eqb}
 use lib.IntN.{ℤ, pos}
-use lib.ListN.{getD}
+use lib.ListN.{length, getD, replicate}
 use Rattle.answers.specs.Checks.{every}
 use Rattle.answers.proofs.Every.{every-all}
 use Rattle.constraints.specs.Layout.{Constraint, Line}
 use Rattle.constraints.specs.Linear.{Form, variable, coefficient, scaled, written, sameZ}
 use Rattle.rules.specs.Arithmetic.{sumOf}
 use Rattle.rules.specs.Limited.{Named}
+use Rattle.rules.proofs.Contents.{same-means}
 use Rattle.arithmetic.specs.Sums.{sumsOf, zeroAt, termsZero}
-use Rattle.arithmetic.proofs.Adding.{on, factor, form-more, sums-are}
+use Rattle.arithmetic.proofs.Adding.{on, factor, form-more, sums-are, length-sums}
 
 -- the variable of term j
 abbrev named : Constraint → (j : ℕ) → ℕ
@@ -35,6 +36,14 @@ every-of : (ok : ℕ → Bool) (n : ℕ) → ((k : ℕ) → k < n → ok k ≡ t
 unfolding every
 every-of ok zero h = refl
 every-of ok (suc n) h = rw (every-of ok n (λ k l. h k (omega arith)), h n (le-refl (suc n)))
+
+-- a list of n numbers that are all 0
+zeros-are : (n : ℕ) (l : List ℤ) → length l ≡ n → ((x : ℕ) → x < n → getD l x (pos 0) ≡ pos 0) → l ≡ replicate n (pos 0)
+zeros-are zero [] e h = refl
+zeros-are zero (z ∷ l) e h = absurd (omega (arith, e))
+zeros-are (suc n) [] e h = absurd (omega (arith, e))
+zeros-are (suc n) (z ∷ l) e h =
+    ap₂ _∷_ (h 0 (omega arith)) (zeros-are n l (omega (arith, e)) (λ x k. h (suc x) (omega arith)))
 
 -- tests of which each holds where the other does
 same-test : (a b : Bool) → (a ≡ true → b ≡ true) → (b ≡ true → a ≡ true) → a ≡ b
@@ -89,3 +98,9 @@ module _ (constraints : ℕ → Constraint) (line : Line) where
         let c = on constraints line i in
         every-of (zeroAt sums c) (c .head .count)
         (λ j m. same-zero (named c j) (below i k j m) ∙ every-all zeroSum 576 all (named c j) (below i k j m))))
+
+    -- where it holds, the sums are all 0
+    pub named-clear : every zeroOf n ≡ true → sums ≡ replicate 576 (pos 0)
+    named-clear all =
+        zeros-are 576 sums (length-sums constraints line n) λ x l.
+        sums-are constraints line n x l ∙ same-means _ (pos 0) (zero-anywhere all x l (zeroSum x) refl)

@@ -8,15 +8,21 @@ use crate::sums::are_zero;
 use crate::sums::bound_of;
 use constraints::line_head;
 ghost use mathlib.Core.Path.{_≡_};
+ghost use mathlib.Core.Bool.{true};
+ghost use lib.IntN.{pos};
+ghost use lib.ListN.{replicate};
 ghost use Rattle.constraints.specs.Layout.{lineAt};
 ghost use Rattle.rules.specs.Arithmetic.{arithmeticOk};
 ghost use Rattle.arithmetic.specs.Sums.{constraintsFrom};
 ghost use Rattle.arithmetic.specs.Checkable.{Checkable};
 
-// Rule 20, of the line at an offset of a file whose constraints start at another.
-pub fn arithmetic_ok(file: &[u8], start: usize, at: usize) -> bool
+// Rule 20, of the line at an offset of a file whose constraints start at another. The sums are lent at zero, and a line that
+// passes leaves them so.
+pub fn arithmetic_ok(sums: &mut [i64], file: &[u8], start: usize, at: usize) -> bool
     requires { ⌜ Checkable (now file) start at ⌝ }
-    ensures { λ r. ⌜ r ≡ arithmeticOk (constraintsFrom (now (file .entry)) start) (lineAt (now (file .entry)) at) ⌝ }
+    requires { ⌜ now sums ≡ replicate 576 (pos 0) ⌝ }
+    ensures answer { λ r. ⌜ r ≡ arithmeticOk (constraintsFrom (now (file .entry)) start) (lineAt (now (file .entry)) at) ⌝ }
+    ensures cleared { λ r. ⌜ (r ≡ true → now (sums .exit) ≡ replicate 576 (pos 0)) ⌝ }
 {
     let head = line_head(file, at);
     let count = head.count as usize;
@@ -26,8 +32,7 @@ pub fn arithmetic_ok(file: &[u8], start: usize, at: usize) -> bool
     if !are_constraints(file, at, count) {
         return false;
     }
-    let mut sums = [0i64; 576];
-    add_literals(&mut sums, file, start, at, count);
+    add_literals(sums, file, start, at, count);
     let bound = bound_of(file, start, at, count);
-    are_zero(&sums, file, start, at, count) & (bound <= -1)
+    are_zero(sums, file, start, at, count) & (bound <= -1)
 }

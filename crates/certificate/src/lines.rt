@@ -10,7 +10,8 @@ use constraints::line_head;
 ghost use Prim.Native.Nat.{_+_, _*_, _<_, _≤_};
 ghost use mathlib.Core.Path.{_≡_};
 ghost use mathlib.Core.Bool.{true};
-ghost use lib.ListN.{length};
+ghost use lib.IntN.{pos};
+ghost use lib.ListN.{length, replicate};
 ghost use Rattle.constraints.specs.Layout.{trailerOf, sizeOf, startOf, constraintOf, lineOf};
 ghost use Rattle.rules.specs.Arithmetic.{arithmeticOk};
 ghost use Rattle.rules.specs.Joins.{joinOk};
@@ -85,8 +86,9 @@ fn join_passes(cert: &[u8], t: Trailer, i: usize) -> bool
     }
 }
 
-// Rule 20, of line i.
+// Rule 20, of line i. The sums are lent at zero, and a line that passes leaves them so; here as below.
 fn arithmetic_passes(
+    sums: &mut [i64],
     node: &[u8],
     cert: &[u8],
     sorts: &[u8],
@@ -97,11 +99,13 @@ fn arithmetic_passes(
 ) -> bool
     requires { ⌜ Checking (now node) (now cert) (now sorts) t n property ⌝ }
     requires { ⌜ (i < t .base + t .step) × (shapePasses (now node) (now cert) i ≡ true) ⌝ }
-    ensures { λ r. ⌜ r ≡ arithmeticOk (constraintOf (now (cert .entry))) (lineOf (now (cert .entry)) i) ⌝ }
+    requires { ⌜ now sums ≡ replicate 576 (pos 0) ⌝ }
+    ensures answer { λ r. ⌜ r ≡ arithmeticOk (constraintOf (now (cert .entry))) (lineOf (now (cert .entry)) i) ⌝ }
+    ensures cleared { λ r. ⌜ (r ≡ true → now (sums .exit) ≡ replicate 576 (pos 0)) ⌝ }
 {
     let start = start_of(cert, t);
     let at = lines_start(cert, t) + 80 * i;
-    arithmetic_ok(cert, start, at)
+    arithmetic_ok(sums, cert, start, at)
 }
 
 // Rule 17, of line i.
@@ -131,6 +135,7 @@ fn equation_passes(
 
 // The rule of line i's kind, where rule 16 has passed it and the lines before it.
 pub fn kind_passes(
+    sums: &mut [i64],
     node: &[u8],
     cert: &[u8],
     sorts: &[u8],
@@ -142,7 +147,9 @@ pub fn kind_passes(
     requires { ⌜ Checking (now node) (now cert) (now sorts) t n property ⌝ }
     requires { ⌜ (i < t .base + t .step) × (shapePasses (now node) (now cert) i ≡ true) ⌝ }
     requires { ⌜ LinesReady (now cert) (linesStart (now cert)) i ⌝ }
-    ensures { λ r. ⌜ r ≡ kindPasses (now (node .entry)) (now (cert .entry)) i ⌝ }
+    requires { ⌜ now sums ≡ replicate 576 (pos 0) ⌝ }
+    ensures answer { λ r. ⌜ r ≡ kindPasses (now (node .entry)) (now (cert .entry)) i ⌝ }
+    ensures cleared { λ r. ⌜ (r ≡ true → now (sums .exit) ≡ replicate 576 (pos 0)) ⌝ }
 {
     let at = lines_start(cert, t) + 80 * i;
     let kind = line_head(cert, at).kind;
@@ -155,5 +162,5 @@ pub fn kind_passes(
     if kind == 3 {
         return join_passes(cert, t, i);
     }
-    arithmetic_passes(node, cert, sorts, t, n, property, i)
+    arithmetic_passes(sums, node, cert, sorts, t, n, property, i)
 }

@@ -1,11 +1,13 @@
 -- `arithmetic::arithmetic_ok` meets its contract: the tests in a row.
 -- Assumes nothing.
-use mathlib.Core.Path.{_≡_, refl, sym, _∙_, ap}
+use mathlib.Core.Path.{_≡_, sym, _∙_, ap}
+use mathlib.Core.Bool.{false≢true}
 use Prim.Native.Nat.{ℕ, _≤_, _<_}
 use native.Mathlib.Omega.{arith}
 use borrow.Author.Needs.{needs}
 use borrow.Author.Tests.{not-true, not-false}
-use lib.ListN.{length}
+use lib.IntN.{pos}
+use lib.ListN.{length, length-replicate}
 use mir.Syntax.{w64}
 use mir.Val.{SFits}
 use mir.Facts.{toZ-ofZ}
@@ -14,7 +16,7 @@ use Rattle.constraints.specs.Layout.{lineAt}
 use Rattle.arithmetic.specs.Sums.{constraintsFrom, sumsOf}
 use Rattle.arithmetic.specs.Checkable.{Usable}
 use Rattle.arithmetic.proofs.Adding.{length-sums}
-use Rattle.arithmetic.proofs.Deciding.{ends-none, ends-other, ends, each-usable}
+use Rattle.arithmetic.proofs.Deciding.{ends-none, ends-other, ends, ends-clear, each-usable}
 use Rattle.arithmetic.proofs.arithmetic_ok.Statement.{statement}
 use Rattle.arithmetic.proofs.arithmetic_ok.Tie as tie
 
@@ -27,29 +29,33 @@ cast-count c = search needs
 returns : tie.Need-returns
 returns c =
     let head = c .before .before in
-    let s = head .before .before in
-    ends-none (constraintsFrom (s .args .file .now) (s .args .start)) (lineAt (s .args .file .now) (s .args .at))
-    (head .line-head .result .count)
-    (ap (λ (h : LineHead). h .count) (head .line-head .ensures))
-    (c .if1 .taken)
+    let s = head .before .before in (
+      ends-none (constraintsFrom (s .args .file .now) (s .args .start)) (lineAt (s .args .file .now) (s .args .at))
+          (head .line-head .result .count)
+          (ap (λ (h : LineHead). h .count) (head .line-head .ensures))
+          (c .if1 .taken),
+      λ e. absurd (false≢true e),
+    )
 
 few : (c : tie.Else1) → c .before .before .line-head .result .count ≤ 12
 few c =
     let head = c .before .before in
-    omega (arith, ap (λ (h : LineHead). h .count) (head .line-head .ensures), head .before .before .pre .few)
+    omega (arith, ap (λ (h : LineHead). h .count) (head .line-head .ensures), head .before .before .pre .0 .few)
 
 are-constraints-requires : tie.Need-are-constraints-requires
-are-constraints-requires c κs = (c .before .before .before .before .pre .room, few c)
+are-constraints-requires c κs = (c .before .before .before .before .pre .0 .room, few c)
 
 returns-2 : tie.Need-returns-2
 returns-2 c =
     let head = c .before .before .before .before in
-    let s = head .before .before in
-    ends-other (constraintsFrom (s .args .file .now) (s .args .start)) (lineAt (s .args .file .now) (s .args .at))
-    (head .line-head .result .count)
-    (ap (λ (h : LineHead). h .count) (head .line-head .ensures))
-    (c .before .before .if1 .left)
-    (sym (c .before .are-constraints .ensures) ∙ not-true _ (c .if2 .taken))
+    let s = head .before .before in (
+      ends-other (constraintsFrom (s .args .file .now) (s .args .start)) (lineAt (s .args .file .now) (s .args .at))
+          (head .line-head .result .count)
+          (ap (λ (h : LineHead). h .count) (head .line-head .ensures))
+          (c .before .before .if1 .left)
+          (sym (c .before .are-constraints .ensures) ∙ not-true _ (c .if2 .taken)),
+      λ e. absurd (false≢true e),
+    )
 
 -- where all literals are on constraints, each is usable
 usable : (c : tie.Else2)
@@ -59,16 +65,13 @@ usable : (c : tie.Else2)
 usable c =
     let head = c .before .before .before .before in
     let s = head .before .before in
-    each-usable (s .args .file .now) (s .args .start) (s .args .at) (head .line-head .result .count) (s .pre)
+    each-usable (s .args .file .now) (s .args .start) (s .args .at) (head .line-head .result .count) (s .pre .0)
     (ap (λ (h : LineHead). h .count) (head .line-head .ensures))
     (sym (c .before .are-constraints .ensures) ∙ not-false _ (c .if2 .left))
 
-slice-aggregate-add-literals : tie.Need-slice-aggregate-add-literals
-slice-aggregate-add-literals c = refl
-
 add-literals-requires : tie.Need-add-literals-requires
 add-literals-requires c κs =
-    (few (c .before .before .before), (usable (c .before), refl))
+    (few (c .before .before .before), (usable (c .before), c .before .before .before .before .before .before .before .pre .1))
 
 bound-of-requires : tie.Need-bound-of-requires
 bound-of-requires c κs =
@@ -85,13 +88,15 @@ lent-length c =
     let count = head .line-head .result .count in
     ap length {y = sumsOf constraints line count} (c .add-literals .ensures) ∙ length-sums constraints line count
 
-slice-aggregate-are-zero : tie.Need-slice-aggregate-are-zero
-slice-aggregate-are-zero c = sym (lent-length (c .before .before .before))
-
 are-zero-requires : tie.Need-are-zero-requires
 are-zero-requires c κs =
     let lent = c .before .before .before in
     (lent-length lent, usable (lent .before .before))
+
+same-length : tie.Need-same-length
+same-length c =
+    let lent = c .before .before .before .before in
+    lent-length lent ∙ sym (ap length (lent .before .before .before .before .before .before .before .before .pre .1) ∙ length-replicate 576 (pos 0))
 
 returns-3 : tie.Need-returns-3
 returns-3 c =
@@ -100,18 +105,22 @@ returns-3 c =
     let on = lent .before .before in
     let head = on .before .before .before .before in
     let s = head .before .before in
-    let f : SFits w64 (bound .bound-of .result) = search needs in
-    rw (c .are-zero .ensures, toZ-ofZ f)
-    (ends (constraintsFrom (s .args .file .now) (s .args .start)) (lineAt (s .args .file .now) (s .args .at))
-    (head .line-head .result .count)
-    (ap (λ (h : LineHead). h .count) (head .line-head .ensures))
-    (on .before .before .if1 .left)
-    (sym (on .before .are-constraints .ensures) ∙ not-false _ (on .if2 .left))
-    (lent .add-literals .last .0)
-    (bound .bound-of .result)
-    (lent .add-literals .ensures)
-    (bound .bound-of .ensures)
-    (λ j l. usable on j l .summable .limited .variables))
+    let constraints = constraintsFrom (s .args .file .now) (s .args .start) in
+    let line = lineAt (s .args .file .now) (s .args .at) in
+    let count-is = ap (λ (h : LineHead). h .count) (head .line-head .ensures) in
+    let f : SFits w64 (bound .bound-of .result) = search needs in (
+      rw (c .are-zero .ensures, toZ-ofZ f)
+          (ends constraints line (head .line-head .result .count) count-is
+          (on .before .before .if1 .left)
+          (sym (on .before .are-constraints .ensures) ∙ not-false _ (on .if2 .left))
+          (lent .add-literals .last .0)
+          (bound .bound-of .result)
+          (lent .add-literals .ensures)
+          (bound .bound-of .ensures)
+          (λ j l. usable on j l .summable .limited .variables)),
+      rw (c .are-zero .ensures)
+          (ends-clear constraints line (head .line-head .result .count) count-is (lent .add-literals .last .0) _ (lent .add-literals .ensures)),
+    )
 
 pub arithmetic-ok-spec : {M : Type 1} → statement M
 arithmetic-ok-spec =
@@ -122,9 +131,8 @@ arithmetic-ok-spec =
     returns
     are-constraints-requires
     returns-2
-    slice-aggregate-add-literals
     add-literals-requires
     bound-of-requires
-    slice-aggregate-are-zero
     are-zero-requires
+    same-length
     returns-3)

@@ -1,7 +1,7 @@
 -- `certificate::line_passes` meets its contract: rule 16 fails, or the rule of the kind decides.
 -- Assumes nothing.
 use mathlib.Core.Path.{_≡_, sym, _∙_}
-use mathlib.Core.Bool.{true}
+use mathlib.Core.Bool.{true, false≢true}
 use Prim.Native.Nat.{ℕ, _+_, _<_}
 use borrow.Author.Count.{below-more}
 use borrow.Author.Tests.{not-true, not-false}
@@ -25,23 +25,36 @@ shapes : (c : tie.Else1) → let a = c .before .before .before .before .before .
 shapes c =
     let s = c .before .before .before .before .before in
     below-more (λ (j : ℕ). shapePasses (now (s .args .node)) (now (s .args .cert)) j ≡ true) (s .args .i)
-    (λ j l. both-true (shapePasses (now (s .args .node)) (now (s .args .cert)) j) (kindPasses (now (s .args .node)) (now (s .args .cert)) j) (s .pre .1 .1 j l) .0)
+    (λ j l. both-true (shapePasses (now (s .args .node)) (now (s .args .cert)) j) (kindPasses (now (s .args .node)) (now (s .args .cert)) j) (s .pre .1 .0 .1 j l) .0)
     (shape-true c)
 
 below : (c : tie.Else1) → let a = c .before .before .before .before .before .args in a .i < trailerOf (now (a .cert)) .base + trailerOf (now (a .cert)) .step
-below c = rw (c .before .before .before .before .before .pre .0 .trailer) at (c .before .before .before .before .before .pre .1 .0)
+below c = rw (c .before .before .before .before .before .pre .0 .trailer) at (c .before .before .before .before .before .pre .1 .0 .0)
 
 returns : tie.Need-returns
-returns c = rw (sym (c .before .shape-passes .ensures) ∙ not-true _ (c .if1 .taken))
+returns c = (
+  rw (sym (c .before .shape-passes .ensures) ∙ not-true _ (c .if1 .taken)),
+  λ e. absurd (false≢true e),
+)
 
 kind-passes-requires : tie.Need-kind-passes-requires
 kind-passes-requires c κs =
-    let s = c .before .before .before .before .before in
-    (s .pre .0, ((s .pre .1 .0, shape-true c), lines-ready _ _ _ _ _ _ (s .pre .0) (s .args .i) (below c) (shapes c)))
+    let shaped = c .before in
+    let s = shaped .before .before .before .before .before in (
+      s .pre .0,
+      (
+        (s .pre .1 .0 .0, shape-true shaped),
+        (lines-ready _ _ _ _ _ _ (s .pre .0) (s .args .i) (below shaped) (shapes shaped), s .pre .1 .1),
+      ),
+    )
+
+same-length : tie.Need-same-length
+same-length c = search needs
 
 returns-2 : tie.Need-returns-2
-returns-2 c = rw (shape-true (c .before)) (c .kind-passes .ensures)
+returns-2 c =
+    (rw (shape-true (c .before .before .before)) (c .before .kind-passes .ensures .0), c .before .kind-passes .ensures .1)
 
 pub line-passes-spec : {M : Type 1} → statement M
 line-passes-spec =
-    tie.close (tie.spec shape-passes-requires returns kind-passes-requires returns-2)
+    tie.close (tie.spec shape-passes-requires returns kind-passes-requires same-length returns-2)

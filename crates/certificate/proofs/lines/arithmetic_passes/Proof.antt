@@ -24,22 +24,32 @@ add-at : tie.Need-add-at
 add-at c = search needs
 
 below : (c : tie.After-lines-start) → let a = c .before .before .before .before .before .args in a .i < trailerOf (now (a .cert)) .base + trailerOf (now (a .cert)) .step
-below c = rw (c .before .before .before .before .before .pre .0 .trailer) at (c .before .before .before .before .before .pre .1 .0)
+below c = rw (c .before .before .before .before .before .pre .0 .trailer) at (c .before .before .before .before .before .pre .1 .0 .0)
 
 arithmetic-ok-requires : tie.Need-arithmetic-ok-requires
 arithmetic-ok-requires c κs =
-    let s = c .before .before .before .before .before in
-    rw (c .before .start-of .ensures, c .lines-start .ensures)
-    (line-checkable _ _ _ _ _ _ (s .pre .0) (s .args .i) (below c) (s .pre .1 .1))
+    let read = c .before in
+    let s = read .before .before .before .before .before in (
+      rw (read .before .start-of .ensures, read .lines-start .ensures)
+          (line-checkable _ _ _ _ _ _ (s .pre .0) (s .args .i) (below read) (s .pre .1 .0 .1)),
+      s .pre .1 .1,
+    )
+
+same-length : tie.Need-same-length
+same-length c = search needs
 
 returns : tie.Need-returns
 returns c =
-    let s = c .before .before .before .before .before .before in
-    c .arithmetic-ok .ensures
-    ∙ rw (c .before .before .start-of .ensures, c .before .lines-start .ensures)
-    (ap (arithmeticOk (constraintOf (now (s .args .cert)))) (sym (line-is (now (s .args .cert)) (s .args .i))))
+    let summed = c .before in
+    let read = summed .before .before in
+    let s = read .before .before .before .before .before in (
+      summed .arithmetic-ok .ensures .0
+          ∙ rw (read .before .start-of .ensures, read .lines-start .ensures)
+          (ap (arithmeticOk (constraintOf (now (s .args .cert)))) (sym (line-is (now (s .args .cert)) (s .args .i)))),
+      summed .arithmetic-ok .ensures .1,
+    )
 
 pub arithmetic-passes-spec : {M : Type 1} → statement M
 arithmetic-passes-spec =
     tie.close
-    (tie.spec start-of-requires lines-start-requires mul-at add-at arithmetic-ok-requires returns)
+    (tie.spec start-of-requires lines-start-requires mul-at add-at arithmetic-ok-requires same-length returns)

@@ -53,7 +53,10 @@ deep c = rw (c .pre .0 .trailer) (c .pre .0 .ready .deep)
 
 returns : tie.Need-returns
 unfolding kindPasses kindOk
-returns c = rw (eq-eqb _ _ (kind-is (c .before .before) ∙ c .before .if1 .taken)) (c .equation-passes .ensures)
+returns c = (
+  rw (eq-eqb _ _ (kind-is (c .before .before) ∙ c .before .if1 .taken)) (c .equation-passes .ensures),
+  λ e. c .before .before .before .before .before .before .before .pre .1 .1 .1,
+)
 
 property-passes-requires : tie.Need-property-passes-requires
 property-passes-requires c κs =
@@ -63,10 +66,12 @@ property-passes-requires c κs =
 returns-2 : tie.Need-returns-2
 unfolding kindPasses kindOk
 returns-2 c =
-    let s = c .before .before .before .before .before .before .before .before in
-    rw (not-1 (c .before .before), eq-eqb _ _ (kind-is (c .before .before .before) ∙ c .before .if2 .taken))
-    (c .property-passes .ensures
-    ∙ ap (λ (p : ℕ). partOf (now (s .args .cert)) p (s .args .i) .property (lineOf (now (s .args .cert)) (s .args .i))) (s .pre .0 .property-is))
+    let s = c .before .before .before .before .before .before .before .before in (
+      rw (not-1 (c .before .before), eq-eqb _ _ (kind-is (c .before .before .before) ∙ c .before .if2 .taken))
+          (c .property-passes .ensures
+          ∙ ap (λ (p : ℕ). partOf (now (s .args .cert)) p (s .args .i) .property (lineOf (now (s .args .cert)) (s .args .i))) (s .pre .0 .property-is)),
+      λ e. s .pre .1 .1 .1,
+    )
 
 join-passes-requires : tie.Need-join-passes-requires
 join-passes-requires c κs = search needs
@@ -74,23 +79,32 @@ join-passes-requires c κs = search needs
 returns-3 : tie.Need-returns-3
 unfolding kindPasses kindOk
 returns-3 c =
-    let s = c .before .before .before .before .before .before .before .before .before in
-    rw (
-      not-1 (c .before .before .before),
-      not-2 (c .before .before),
-      eq-eqb _ _ (kind-is (c .before .before .before .before) ∙ c .before .if3 .taken),
+    let s = c .before .before .before .before .before .before .before .before .before in (
+      rw (
+        not-1 (c .before .before .before),
+        not-2 (c .before .before),
+        eq-eqb _ _ (kind-is (c .before .before .before .before) ∙ c .before .if3 .taken),
+      )
+          (c .join-passes .ensures
+          ∙ ap (λ (from : ℕ). joinOk (lineOf (now (s .args .cert))) from (s .args .i))
+          (sym (from-is (now (s .args .cert)) (propertyOf (now (s .args .node))) (s .args .i)))),
+      λ e. s .pre .1 .1 .1,
     )
-    (c .join-passes .ensures
-    ∙ ap (λ (from : ℕ). joinOk (lineOf (now (s .args .cert))) from (s .args .i))
-    (sym (from-is (now (s .args .cert)) (propertyOf (now (s .args .node))) (s .args .i))))
 
 arithmetic-passes-requires : tie.Need-arithmetic-passes-requires
 arithmetic-passes-requires c κs = search needs
 
+same-length : tie.Need-same-length
+same-length c = search needs
+
 returns-4 : tie.Need-returns-4
 unfolding kindPasses kindOk
 returns-4 c =
-    rw (not-1 (c .before .before .before), not-2 (c .before .before), not-3 (c .before)) (c .arithmetic-passes .ensures)
+    let summed = c .before in
+    let other = summed .before .before in (
+      rw (not-1 (other .before .before), not-2 (other .before), not-3 other) (summed .arithmetic-passes .ensures .0),
+      summed .arithmetic-passes .ensures .1,
+    )
 
 pub kind-passes-spec : {M : Type 1} → statement M
 kind-passes-spec =
@@ -107,4 +121,5 @@ kind-passes-spec =
     join-passes-requires
     returns-3
     arithmetic-passes-requires
+    same-length
     returns-4)
