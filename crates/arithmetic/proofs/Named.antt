@@ -32,7 +32,7 @@ unnamed-terms z c (suc n) x h rest =
     rw (ne-eqb (named c n) x (h n (le-refl (suc n)))) (unnamed-terms z c n x (λ j l. h j (omega arith)) rest)
 
 -- a test that holds of each of the first n
-every-of : (ok : ℕ → Bool) (n : ℕ) → ((k : ℕ) → k < n → ok k ≡ true) → every ok n ≡ true
+pub every-of : (ok : ℕ → Bool) (n : ℕ) → ((k : ℕ) → k < n → ok k ≡ true) → every ok n ≡ true
 unfolding every
 every-of ok zero h = refl
 every-of ok (suc n) h = rw (every-of ok n (λ k l. h k (omega arith)), h n (le-refl (suc n)))
@@ -46,7 +46,7 @@ zeros-are (suc n) (z ∷ l) e h =
     ap₂ _∷_ (h 0 (omega arith)) (zeros-are n l (omega (arith, e)) (λ x k. h (suc x) (omega arith)))
 
 -- tests of which each holds where the other does
-same-test : (a b : Bool) → (a ≡ true → b ≡ true) → (b ≡ true → a ≡ true) → a ≡ b
+pub same-test : (a b : Bool) → (a ≡ true → b ≡ true) → (b ≡ true → a ≡ true) → a ≡ b
 same-test true b f g = sym (f refl)
 same-test false true f g = g refl
 same-test false false f g = refl

@@ -3,5 +3,6 @@ pub mod NodeFacts
 pub mod Openings
 pub mod PartFacts
 pub mod Settings
+pub mod SlotHalves
 pub mod SortList
 pub mod Standing

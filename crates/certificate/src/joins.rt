@@ -1,6 +1,5 @@
 // Rule 19: joins.
 use crate::search::covers;
-use crate::search::stands_from;
 use clauses::Literal;
 use constraints::line_head;
 ghost use Prim.Native.Nat.{_+_, _*_, _<_, _≤_};
@@ -10,7 +9,8 @@ ghost use Rattle.constraints.specs.Layout.{lineAt};
 ghost use Rattle.rules.specs.Joins.{joins, joinOk};
 ghost use Rattle.certificate.specs.Ready.{LinesReady, linesAt};
 
-// Literal r stands in the line at p and its opposite in the line at q, and what is left of both stands in the line at an offset.
+// Literal r stands in the line at p and its opposite in the line at q, and what is left of both stands in the line at an offset:
+// there mostly first what is left of p, then what is left of q.
 fn is_join(file: &[u8], p: usize, q: usize, r: u16, at: usize) -> bool
     requires { ⌜ (p + 80 ≤ length (now file)) × (q + 80 ≤ length (now file)) × (at + 80 ≤ length (now file)) ⌝ }
     requires { ⌜ (lineAt (now file) p .head .count ≤ 12) × (lineAt (now file) q .head .count ≤ 12) × (lineAt (now file) at .head .count ≤ 12) ⌝ }
@@ -21,10 +21,10 @@ fn is_join(file: &[u8], p: usize, q: usize, r: u16, at: usize) -> bool
     let in_p = line_head(file, p).count as usize;
     let in_q = line_head(file, q).count as usize;
     let here = line_head(file, at).count as usize;
-    stands_from(file, p, in_p, r, 0)
-        & stands_from(file, q, in_q, s, 0)
-        & covers(file, p, in_p, r, at, here)
-        & covers(file, q, in_q, s, at, here)
+    if in_p < 1 {
+        return false;
+    }
+    covers(file, p, in_p, r, at, here, 0) & covers(file, q, in_q, s, at, here, in_p - 1)
 }
 
 // Rule 19, of line i, where line 0 stands at an offset and the part begins at line `from`.

@@ -13,6 +13,7 @@ ghost use Rattle.constraints.specs.Layout.{lineAt, literalAt, multiplierAt};
 ghost use Rattle.constraints.specs.Rules.{sortsOf};
 ghost use Rattle.rules.specs.Literals.{namesAtom};
 ghost use Rattle.rules.specs.Lines.{multiplierOk, slotOk, numbersOk, shapeOk};
+ghost use Rattle.certificate.specs.Slots.{listedOk, unusedOk};
 
 // The number names an atom, at depth k with m constraints.
 fn names_atom(sorts: &[u8], k: u8, m: u16, atom: usize) -> bool
@@ -36,33 +37,59 @@ fn is_multiplier(kind: u8, multiplier: u32) -> bool
     }
 }
 
-// Literal and multiplier j of the line at an offset, of this kind and count.
-fn is_slot(file: &[u8], at: usize, h: LineHead, sorts: &[u8], k: u8, m: u16, j: usize) -> bool
+// Literal and multiplier j of the line at an offset, of this kind, where it is listed.
+fn is_listed(file: &[u8], at: usize, kind: u8, sorts: &[u8], k: u8, m: u16, j: usize) -> bool
     requires { ⌜ (at + 80 ≤ length (now file)) × (j < 12) ⌝ }
-    ensures { λ r. ⌜ r ≡ slotOk (sortsOf (now (sorts .entry))) k m (h .kind) (h .count) (literalAt (now (file .entry)) at) (multiplierAt (now (file .entry)) at) j ⌝ }
+    ensures { λ r. ⌜ r ≡ listedOk (sortsOf (now (sorts .entry))) k m kind (literalAt (now (file .entry)) at) (multiplierAt (now (file .entry)) at) j ⌝ }
 {
     let literal = literal_at(file, at, j);
     let multiplier = multiplier_at(file, at, j);
-    if (h.count as usize) <= j {
-        return (literal == 0) & (multiplier == 0);
-    }
     let atom = Literal(literal).atom();
-    names_atom(sorts, k, m, atom) & is_multiplier(h.kind, multiplier)
+    names_atom(sorts, k, m, atom) & is_multiplier(kind, multiplier)
 }
 
-// Each of the twelve literals and multipliers.
-fn are_slots(file: &[u8], at: usize, h: LineHead, sorts: &[u8], k: u8, m: u16) -> bool
-    requires { ⌜ at + 80 ≤ length (now file) ⌝ }
-    ensures { λ r. ⌜ r ≡ every (slotOk (sortsOf (now (sorts .entry))) k m (h .kind) (h .count) (literalAt (now (file .entry)) at) (multiplierAt (now (file .entry)) at)) 12 ⌝ }
+// Each of the literals and multipliers that are listed.
+fn are_listed(file: &[u8], at: usize, h: LineHead, sorts: &[u8], k: u8, m: u16) -> bool
+    requires { ⌜ (at + 80 ≤ length (now file)) × (h .count ≤ 12) ⌝ }
+    ensures { λ r. ⌜ r ≡ every (listedOk (sortsOf (now (sorts .entry))) k m (h .kind) (literalAt (now (file .entry)) at) (multiplierAt (now (file .entry)) at)) (h .count) ⌝ }
 {
+    let count = h.count as usize;
     let mut j = 0;
-    while j < 12 {
-        if !is_slot(file, at, h, sorts, k, m, j) {
+    while j < count {
+        if !is_listed(file, at, h.kind, sorts, k, m, j) {
             return false;
         }
         j += 1;
     }
     true
+}
+
+// The literals and multipliers from `count` on are zero. All twelve are looked at, since a loop that never ends early takes
+// several at a time.
+fn are_unused(file: &[u8], at: usize, count: usize) -> bool
+    requires { ⌜ at + 80 ≤ length (now file) ⌝ }
+    ensures { λ r. ⌜ r ≡ every (unusedOk count (literalAt (now (file .entry)) at) (multiplierAt (now (file .entry)) at)) 12 ⌝ }
+{
+    let mut clear = true;
+    let mut j = 0;
+    while j < 12 {
+        let literal = literal_at(file, at, j);
+        let multiplier = multiplier_at(file, at, j);
+        clear = clear & ((j < count) | ((literal == 0) & (multiplier == 0)));
+        j += 1;
+    }
+    clear
+}
+
+// Each of the twelve literals and multipliers.
+fn are_slots(file: &[u8], at: usize, h: LineHead, sorts: &[u8], k: u8, m: u16) -> bool
+    requires { ⌜ (at + 80 ≤ length (now file)) × (h .count ≤ 12) ⌝ }
+    ensures { λ r. ⌜ r ≡ every (slotOk (sortsOf (now (sorts .entry))) k m (h .kind) (h .count) (literalAt (now (file .entry)) at) (multiplierAt (now (file .entry)) at)) 12 ⌝ }
+{
+    if !are_listed(file, at, h, sorts, k, m) {
+        return false;
+    }
+    are_unused(file, at, h.count as usize)
 }
 
 // What the kind does not use of p, q and r is zero.
@@ -80,9 +107,11 @@ pub fn shape_ok(file: &[u8], at: usize, sorts: &[u8], k: u8, m: u16) -> bool
     ensures { λ r. ⌜ r ≡ shapeOk (sortsOf (now (sorts .entry))) k m (lineAt (now (file .entry)) at) ⌝ }
 {
     let h = line_head(file, at);
-    (1 <= h.kind)
-        & (h.kind <= 4)
-        & (h.count <= 12)
-        & are_numbers(h)
-        & are_slots(file, at, h, sorts, k, m)
+    if 12 < h.count {
+        return false;
+    }
+    if !((1 <= h.kind) & (h.kind <= 4) & are_numbers(h)) {
+        return false;
+    }
+    are_slots(file, at, h, sorts, k, m)
 }

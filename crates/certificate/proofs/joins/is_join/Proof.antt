@@ -1,11 +1,24 @@
--- `certificate::is_join` meets its contract: the four searches in a row, with the counts that were read.
+-- `certificate::is_join` meets its contract: the tests of both lines, with the counts that were read.
 -- Assumes nothing.
+use mathlib.Core.Path.{_≡_, refl, ap}
+use mathlib.Core.Bool.{Bool, true, false, _&&_, and-false}
 use Prim.Native.Nat.{_≤_}
-use native.Mathlib.Nat.{sub-zero}
-use Rattle.rules.specs.Joins.{joins}
+use native.Mathlib.Omega.{arith}
+use denote.Ref.{now}
+use Rattle.constraints.specs.declared.layout.LineHead.{LineHead}
+use Rattle.constraints.specs.Layout.{lineAt, literalAt}
+use Rattle.rules.specs.Literals.{oppositeOf}
+use Rattle.rules.specs.Joins.{standsIn, covered, joins}
+use Rattle.certificate.proofs.Standing.{stands-none}
 use borrow.Author.Needs.{needs}
 use Rattle.certificate.proofs.joins.is_join.Statement.{statement}
 use Rattle.certificate.proofs.joins.is_join.Tie as tie
+
+-- the four tests in the definition's order
+in-turn : (a b c d : Bool) → ((a && c) && (b && d)) ≡ (((a && b) && c) && d)
+in-turn true true c d = refl
+in-turn true false c d = and-false c
+in-turn false b c d = refl
 
 opposite-requires : tie.Need-opposite-requires
 opposite-requires c κs = search needs
@@ -38,32 +51,42 @@ few-q c = rw (c .line-head2 .ensures) (c .before .before .before .before .before
 few-here : (c : tie.After-line-head3) → c .line-head3 .result .count ≤ 12
 few-here c = rw (c .line-head3 .ensures) (c .before .before .before .before .before .before .before .pre .1 .2)
 
-stands-from-requires : tie.Need-stands-from-requires
-stands-from-requires c κs = (search needs, few-p (c .before .before .before .before .before))
-
-stands-from-requires-2 : tie.Need-stands-from-requires-2
-stands-from-requires-2 c κs = (search needs, few-q (c .before .before .before .before))
-
-covers-requires : tie.Need-covers-requires
-covers-requires c κs =
-    let asked = c .before .before .before .before .before .before .before .before .before .before .pre .0 in
-    (asked .0, few-p (c .before .before .before .before .before .before .before), asked .2, few-here (c .before .before .before))
-
-covers-requires-2 : tie.Need-covers-requires-2
-covers-requires-2 c κs =
-    let asked = c .before .before .before .before .before .before .before .before .before .before .before .pre .0 in
-    (asked .1, few-q (c .before .before .before .before .before .before), asked .2, few-here (c .before .before .before .before))
+-- the count of p that was read is the line's
+in-p-is : (c : tie.After-line-head3) → let a = c .before .before .before .before .before .before .before .args in c .before .before .before .before .line-head .result .count ≡ lineAt (now (a .file)) (a .p) .head .count
+in-p-is c = ap (λ (h : LineHead). h .count) (c .before .before .before .before .line-head .ensures)
 
 returns : tie.Need-returns
 unfolding joins
 returns c =
-    let searched = c .before .before .before in
-    let here = searched .before .before in
+    let here = c .before .before in
+    let a = here .before .before .before .before .before .before .before .args in
+    let none = stands-none (literalAt (now (a .file)) (a .p)) (a .r) (lineAt (now (a .file)) (a .p) .head .count) (rw (in-p-is here) at (c .if1 .taken)) in
+    rw none
+
+covers-requires : tie.Need-covers-requires
+covers-requires c κs =
+    let here = c .before .before in
+    let asked = here .before .before .before .before .before .before .before .pre .0 in
+    (asked .0, few-p (here .before .before .before .before), asked .2, few-here here, search needs)
+
+covers-requires-2 : tie.Need-covers-requires-2
+covers-requires-2 c κs =
+    let here = c .before .before .before in
+    let asked = here .before .before .before .before .before .before .before .pre .0 in
+    (asked .1, few-q (here .before .before), asked .2, few-here here, omega (arith, few-p (here .before .before .before .before)))
+
+returns-2 : tie.Need-returns-2
+unfolding joins
+returns-2 c =
+    let here = c .before .before .before .before in
     let in-q = here .before .before in
     let in-p = in-q .before .before in
+    let a = in-p .before .before .before .args in
+    let p = lineAt (now (a .file)) (a .p) in
+    let q = lineAt (now (a .file)) (a .q) in
+    let line = lineAt (now (a .file)) (a .at) in
+    let opposite = oppositeOf (a .r) in
     rw (
-      searched .stands-from .ensures,
-      c .before .before .stands-from2 .ensures,
       c .before .covers .ensures,
       c .covers2 .ensures,
       here .line-head3 .ensures,
@@ -71,7 +94,7 @@ returns c =
       in-p .line-head .ensures,
       in-p .before .opposite .ensures,
     )
-    (simp sub-zero)
+    (in-turn (standsIn p (a .r)) (standsIn q opposite) (covered p (a .r) line) (covered q opposite line))
 
 pub is-join-spec : {M : Type 1} → statement M
 is-join-spec =
@@ -84,8 +107,7 @@ is-join-spec =
     cast-in-q
     line-head-requires-3
     cast-here
-    stands-from-requires
-    stands-from-requires-2
+    returns
     covers-requires
     covers-requires-2
-    returns)
+    returns-2)

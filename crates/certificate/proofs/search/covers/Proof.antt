@@ -1,58 +1,74 @@
--- `certificate::covers` meets its contract. The loop's invariant: each literal passed is covered.
+-- `certificate::covers` meets its contract. The loop's invariant: each literal passed is covered, and it is known whether the one
+-- left out was among them.
 -- Assumes nothing.
 use mathlib.Core.Path.{_≡_, sym, _∙_}
-use mathlib.Core.Bool.{true, _||_, or-true}
+use mathlib.Core.Bool.{Bool, true, and-true, and-false, or-true, _&&_}
 use mathlib.Core.Logic.{⊎-elim}
-use Prim.Native.Nat.{_-_, _≤_}
-use native.Mathlib.Nat.{sub-zero}
+use Prim.Native.Nat.{_+_, _-_, _≤_}
 use native.Mathlib.Omega.{arith}
 use borrow.Author.Needs.{needs}
-use borrow.Author.Tests.{not-true, not-false, eq-eqb, ne-eqb}
+use borrow.Author.Tests.{not-true, not-false}
 use denote.Ref.{now}
 use lib.Dec.{eqb}
 use Rattle.answers.specs.Checks.{every}
 use Rattle.answers.proofs.Every.{every-none, every-more, every-not}
 use Rattle.constraints.specs.Layout.{literalAt}
-use Rattle.rules.specs.Joins.{coveredBy}
+use Rattle.rules.specs.Joins.{standsFrom, coveredBy}
+use Rattle.certificate.proofs.Standing.{stands-last, stands-here}
 use Rattle.certificate.proofs.search.covers.Statement.{statement}
 use Rattle.certificate.proofs.search.covers.Tie as tie
 
 abbrev Inv-loop : tie.InvT-loop
-Inv-loop file at count but other others j₀ j =
-    (j ≤ count) × (every (coveredBy (literalAt file at) but (literalAt file other) others) j ≡ true)
+Inv-loop file at count but other others from stands₀ k₀ j₀ stands k j =
+    (j ≤ count)
+    × (stands ≡ standsFrom (literalAt file at) but 0 j)
+    × (every (coveredBy (literalAt file at) but (literalAt file other) others) j ≡ true)
+    × (k ≤ from + j)
 
 abbrev μ-loop : tie.MeasureT-loop
-μ-loop file at count but other others j₀ j = count - j
+μ-loop file at count but other others from stands₀ k₀ j₀ stands k j = count - j
 
 loop-holds : tie.Need-loop-holds Inv-loop μ-loop
-loop-holds c = (search needs, every-none _)
+unfolding standsFrom
+loop-holds c = (search needs, search needs, every-none _, search needs)
 
 literal-at-requires : tie.Need-literal-at-requires Inv-loop μ-loop
 literal-at-requires c κs = search needs
 
-stands-from-requires : tie.Need-stands-from-requires Inv-loop μ-loop
-stands-from-requires c κs = search needs
+is-next-requires : tie.Need-is-next-requires Inv-loop μ-loop
+is-next-requires c κs = search needs
 
--- the test of a literal that is not the one left out is the definition's
-test-is : (c : tie.After-stands-from Inv-loop μ-loop) → let a = c .before .before .before .before .before .before .args in coveredBy (literalAt (now (a .file)) (a .at)) (a .but) (literalAt (now (a .file)) (a .other)) (a .others) (c .before .before .before .before .loop .j) ≡ (eqb (c .before .before .literal-at .result) (a .but) || c .stands-from .result)
-test-is c = rw (c .stands-from .ensures, sub-zero, c .before .before .literal-at .ensures)
+is-covered-requires : tie.Need-is-covered-requires Inv-loop μ-loop
+is-covered-requires c κs = search needs
+
+-- the test that was made is the definition's
+test-is : (c : tie.After-is-covered Inv-loop μ-loop) → let turn = c .before .before .before .before in let a = turn .before .before .before .args in coveredBy (literalAt (now (a .file)) (a .at)) (a .but) (literalAt (now (a .file)) (a .other)) (a .others) (turn .before .loop .j) ≡ c .is-covered .result
+test-is c = rw (c .is-covered .ensures, c .before .before .before .literal-at .ensures)
 
 returns : tie.Need-returns Inv-loop μ-loop
 returns c =
-    let tested = c .before in
-    sym
-    (every-not _ _ _ (tested .before .before .before .loop-test .taken)
-    (test-is tested ∙ rw (ne-eqb _ _ (tested .before .if1 .taken)) (not-true _ (c .if2 .taken))))
+    let turn = c .before .before .before .before .before in
+    let a = turn .before .before .before .args in
+    let missed = every-not (coveredBy (literalAt (now (a .file)) (a .at)) (a .but) (literalAt (now (a .file)) (a .other)) (a .others)) (turn .before .loop .j) (a .count) (turn .loop-test .taken) (test-is (c .before) ∙ not-true _ (c .if2 .taken)) in
+    sym (rw missed (and-false (standsFrom (literalAt (now (a .file)) (a .at)) (a .but) 0 (a .count))))
 
--- a literal that is left out, or stands there, is covered
-covered-here : (c : tie.Joined1 Inv-loop μ-loop) → let a = c .before .before .before .before .before .args in coveredBy (literalAt (now (a .file)) (a .at)) (a .but) (literalAt (now (a .file)) (a .other)) (a .others) (c .before .before .before .loop .j) ≡ true
+-- a literal that stands where it was looked for first, or is left out, or is found, is covered
+covered-here : (c : tie.Joined1 Inv-loop μ-loop) → let turn = c .before .before .before in let a = turn .before .before .before .args in coveredBy (literalAt (now (a .file)) (a .at)) (a .but) (literalAt (now (a .file)) (a .other)) (a .others) (turn .before .loop .j) ≡ true
 covered-here c =
+    let read = c .before .before in
+    let turn = read .before in
+    let a = turn .before .before .before .args in
     ⊎-elim
-    (λ w.
-    let stands : w .1 .result ≡ true = not-false _ (w .2 .left) in
-    test-is (record { before = record { before = c .before; if1 = w .0 }; stands-from = w .1 }) ∙ rw stands (or-true (eqb (c .before .literal-at .result) (c .before .before .before .before .before .args .but))))
-    (λ e. rw (eq-eqb _ _ (sym (c .before .literal-at .ensures) ∙ e .left)))
+    (λ w. test-is (record { before = record { before = c .before; if1 = w .0 }; is-covered = w .1 }) ∙ not-false _ (w .2 .left))
+    (λ e.
+    let found = stands-here (literalAt (now (a .file)) (a .other)) (read .literal-at .result) (a .others) (turn .before .loop .k) (sym (c .before .is-next .ensures) ∙ not-false _ (e .left)) in
+    rw (sym (read .literal-at .ensures), found) (or-true (eqb (read .literal-at .result) (a .but))))
     (c .if1 .came)
+
+place-after-requires : tie.Need-place-after-requires Inv-loop μ-loop
+place-after-requires c κs =
+    let turn = c .before .before .before in
+    omega (arith, turn .before .loop .inv .3, turn .loop-test .taken, turn .before .before .before .pre)
 
 add-j : tie.Need-add-j Inv-loop μ-loop
 add-j c = search needs
@@ -61,12 +77,26 @@ loop-less : tie.Need-loop-less Inv-loop μ-loop
 loop-less c = search needs
 
 loop-again : tie.Need-loop-again Inv-loop μ-loop
-loop-again c = (search needs, every-more _ _ (c .before .before .before .loop .inv .1) (covered-here c))
+loop-again c =
+    let read = c .before .before .before in
+    let turn = read .before in
+    let a = turn .before .before .before .args in
+    let inv = turn .before .loop .inv in (
+      search needs,
+      rw (inv .1, read .literal-at .ensures) (sym (stands-last (literalAt (now (a .file)) (a .at)) (a .but) (turn .before .loop .j))),
+      every-more _ _ (inv .2) (covered-here (c .before)),
+      omega (arith, inv .3, c .place-after .ensures),
+    )
+
+-- two tests of which the second holds
+known : (a b c : Bool) → a ≡ b → c ≡ true → a ≡ (b && c)
+known a b c e f = e ∙ sym (rw f (and-true b))
 
 returns-2 : tie.Need-returns-2 Inv-loop μ-loop
 returns-2 c =
+    let inv = c .before .loop .inv in
     let j-is : c .before .loop .j ≡ c .before .before .before .args .count = omega arith in
-    sym (rw j-is at (c .before .loop .inv .1))
+    known (c .before .loop .stands) _ _ (rw j-is at (inv .1)) (rw j-is at (inv .2))
 
 pub covers-spec : {M : Type 1} → statement M
 covers-spec =
@@ -76,8 +106,10 @@ covers-spec =
     μ-loop
     loop-holds
     literal-at-requires
-    stands-from-requires
+    is-next-requires
+    is-covered-requires
     returns
+    place-after-requires
     add-j
     loop-less
     loop-again

@@ -1,62 +1,45 @@
--- `certificate::are_slots` meets its contract. The loop's invariant: each literal and multiplier passed is right.
+-- `certificate::are_slots` meets its contract: the two halves of the test.
 -- Assumes nothing.
-use mathlib.Core.Path.{_≡_, sym, _∙_}
-use mathlib.Core.Bool.{true}
-use Prim.Native.Nat.{_-_, _≤_}
-use native.Mathlib.Omega.{arith}
-use borrow.Author.Needs.{needs}
+use mathlib.Core.Path.{sym, _∙_}
 use borrow.Author.Tests.{not-true, not-false}
-use Rattle.answers.specs.Checks.{every}
-use Rattle.answers.proofs.Every.{every-none, every-more, every-not}
 use Rattle.constraints.specs.Layout.{literalAt, multiplierAt}
 use Rattle.constraints.specs.Rules.{sortsOf}
-use Rattle.rules.specs.Lines.{slotOk}
+use Rattle.certificate.proofs.SlotHalves.{slots-missed, slots-rest}
+use borrow.Author.Needs.{needs}
+use denote.Ref.{now}
 use Rattle.certificate.proofs.shape.are_slots.Statement.{statement}
 use Rattle.certificate.proofs.shape.are_slots.Tie as tie
 
-abbrev Inv-loop : tie.InvT-loop
-Inv-loop file at h sorts k m j₀ j =
-    (j ≤ 12) × (every (slotOk (sortsOf sorts) k m (h .kind) (h .count) (literalAt file at) (multiplierAt file at)) j ≡ true)
+are-listed-requires : tie.Need-are-listed-requires
+are-listed-requires c κs = search needs
 
-abbrev μ-loop : tie.MeasureT-loop
-μ-loop file at h sorts k m j₀ j = 12 - j
+returns : tie.Need-returns
+returns c =
+    let s = c .before .before .before .before in
+    let file = now (s .args .file) in
+    slots-missed (sortsOf (now (s .args .sorts))) (s .args .k) (s .args .m) (s .args .h .kind) (s .args .h .count)
+    (literalAt file (s .args .at))
+    (multiplierAt file (s .args .at))
+    (s .pre .1)
+    (sym (c .before .are-listed .ensures) ∙ not-true _ (c .if1 .taken))
 
-loop-holds : tie.Need-loop-holds Inv-loop μ-loop
-loop-holds c = (search needs, every-none _)
+cast-are-unused : tie.Need-cast-are-unused
+cast-are-unused c = search needs
 
-is-slot-requires : tie.Need-is-slot-requires Inv-loop μ-loop
-is-slot-requires c κs = search needs
+are-unused-requires : tie.Need-are-unused-requires
+are-unused-requires c κs = search needs
 
-returns : tie.Need-returns Inv-loop μ-loop
-returns c = sym (every-not _ _ _ (c .before .before .loop-test .taken) (sym (c .before .is-slot .ensures) ∙ not-true _ (c .if1 .taken)))
-
-add-j : tie.Need-add-j Inv-loop μ-loop
-add-j c = search needs
-
-loop-less : tie.Need-loop-less Inv-loop μ-loop
-loop-less c = search needs
-
-loop-again : tie.Need-loop-again Inv-loop μ-loop
-loop-again c = (
-  search needs,
-  every-more _ _ (c .before .before .before .loop .inv .1) (sym (c .before .is-slot .ensures) ∙ not-false _ (c .if1 .left)),
-)
-
-returns-2 : tie.Need-returns-2 Inv-loop μ-loop
+returns-2 : tie.Need-returns-2
 returns-2 c =
-    let j-is : c .before .loop .j ≡ 12 = omega arith in
-    sym (rw j-is at (c .before .loop .inv .1))
+    let listed = c .before .before in
+    let s = listed .before .before .before .before in
+    let file = now (s .args .file) in
+    c .are-unused .ensures
+    ∙ slots-rest (sortsOf (now (s .args .sorts))) (s .args .k) (s .args .m) (s .args .h .kind) (s .args .h .count)
+    (literalAt file (s .args .at))
+    (multiplierAt file (s .args .at))
+    (s .pre .1)
+    (sym (listed .before .are-listed .ensures) ∙ not-false _ (listed .if1 .left))
 
 pub are-slots-spec : {M : Type 1} → statement M
-are-slots-spec =
-    tie.close
-    (tie.spec
-    Inv-loop
-    μ-loop
-    loop-holds
-    is-slot-requires
-    returns
-    add-j
-    loop-less
-    loop-again
-    returns-2)
+are-slots-spec = tie.close (tie.spec are-listed-requires returns cast-are-unused are-unused-requires returns-2)
