@@ -6,7 +6,7 @@ use mathlib.Core.List.{List}
 use Prim.Native.Nat.{ℕ, _+_, _*_, _<_, _≤_}
 use native.Mathlib.Omega.{arith}
 use Rattle.node.specs.Equations.{kindAt, equationAt}
-use Rattle.node.specs.Layout.{streamsOf, propertyOf}
+use Rattle.node.specs.Layout.{streamsOf, propertyOf, recordsOf}
 use Rattle.node.proofs.FileRules.{sizes}
 use Rattle.constraints.specs.declared.layout.Trailer.{Trailer}
 use Rattle.constraints.specs.Layout.{Line, trailerOf, startOf, constraintOf, lineAt, lineOf}
@@ -59,6 +59,10 @@ module _ (node cert sorts : List ℕ) (t : Trailer) (n property : ℕ) (ch : Che
 
   pub constants : ConstantsLimited node n
   constants = rw (ch .streams) (constants-limited node (ch .node-rules))
+
+  -- the count that was read is that of the records
+  pub counted : n ≡ recordsOf node
+  counted = ch .streams ∙ sym (sizes node (ch .node-rules .file) .records)
 
   -- rule 17 in the part that a line stands in
   equation-in : (w : Window) (i start lines : ℕ) → partOf cert (propertyOf node) i ≡ w → start ≡ startOf cert → lines ≡ linesStart cert → equationIn n (kindAt node) (equationAt node) (constraintsFrom cert start) (t .constraints) (w .offsets) (w .isBase) (lineAt cert (lines + 80 * i)) ≡ equationPasses node cert i

@@ -1,6 +1,6 @@
 -- What rules 1 to 8 and 11 to 15 leave, put together for the checks of lines.
 -- Assumes nothing.
-use mathlib.Core.Path.{_≡_, sym, ap, fun-ext}
+use mathlib.Core.Path.{_≡_, sym, _∙_, ap, fun-ext}
 use mathlib.Core.List.{List}
 use Prim.Native.Nat.{ℕ, _≤_, _+_, _*_}
 use native.Mathlib.Omega.{arith}
@@ -9,6 +9,7 @@ use Rattle.answers.specs.declared.Found.the-variants.{Nothing}
 use Rattle.answers.specs.Answer.{accepted, NodeValues}
 use Rattle.answers.specs.Checks.{lowest}
 use Rattle.answers.proofs.Lowest.{all}
+use Rattle.node.specs.Layout.{recordsOf}
 use Rattle.node.specs.Verdict.{verdictOf as nodeVerdict}
 use Rattle.node.proofs.FileRules.{Sizes, sizes}
 use Rattle.node.proofs.Outcomes.{accepted-keeps, accepted-values}
@@ -37,8 +38,8 @@ module _ (node cert : List ℕ) (t : Trailer) (n property : ℕ) (of-node : Node
   facts : FileFacts cert
   facts = file-facts cert (of-file .file)
 
-  pub few-streams : n ≤ 64
-  few-streams = rw (of-node .streams) (node-sizes .few)
+  pub counted-streams : (n ≤ 64) × (n ≡ recordsOf node)
+  counted-streams = (rw (of-node .streams) (node-sizes .few), of-node .streams ∙ sym (node-sizes .records))
 
   pub start-room : (t ≡ trailerOf cert) × (sizeOf (trailerOf cert) ≤ length cert)
   start-room = (of-file .trailer, facts .room)

@@ -3,8 +3,8 @@ use clauses::clause_of;
 use clauses::matches;
 use constraints::line_head;
 use constraints::literal_at;
-use node::equation_of;
-use node::kind_of;
+use node::equation_among;
+use node::kind_among;
 use rules::Clause;
 use rules::Named;
 use rules::Place;
@@ -12,6 +12,7 @@ ghost use Prim.Native.Nat.{_+_, _≤_};
 ghost use mathlib.Core.Path.{_≡_};
 ghost use lib.ListN.{length};
 ghost use Rattle.node.specs.Equations.{kindAt, equationAt};
+ghost use Rattle.node.specs.Layout.{recordsOf};
 ghost use Rattle.constraints.specs.Layout.{lineAt};
 ghost use Rattle.rules.specs.Lines.{clauseIs, placeOf, equationIn};
 ghost use Rattle.clauses.specs.Matching.{Readable, SmallPattern};
@@ -60,7 +61,7 @@ pub fn equation_ok(
     is_base: bool,
 ) -> bool
     requires { ⌜ Readable (now cert) start m × (at + 80 ≤ length (now cert)) ⌝ }
-    requires { ⌜ ConstantsLimited (now node) n × (offsets ≤ 9) ⌝ }
+    requires { ⌜ ConstantsLimited (now node) n × (offsets ≤ 9) × (n ≡ recordsOf (now node)) ⌝ }
     ensures { λ r. ⌜ r ≡ equationIn n (kindAt (now (node .entry))) (equationAt (now (node .entry))) (constraintsFrom (now (cert .entry)) start) m offsets «is_base» (lineAt (now (cert .entry)) at) ⌝ }
 {
     let h = line_head(cert, at);
@@ -71,8 +72,8 @@ pub fn equation_ok(
     }
     let place = place_of(is_base, h.q);
     match clause_of(
-        kind_of(node, p),
-        equation_of(node, p),
+        kind_among(node, n, p),
+        equation_among(node, n, p),
         place,
         q as u8,
         h.p,

@@ -10,6 +10,7 @@ use denote.Ref.{now}
 use lib.Dec.{ltb}
 use Rattle.answers.proofs.Tests.{both-true}
 use Rattle.node.specs.Equations.{kindAt, equationAt}
+use Rattle.node.proofs.Records.{kind-among, equation-among}
 use Rattle.constraints.specs.declared.layout.LineHead.{LineHead}
 use Rattle.constraints.specs.Layout.{lineHeadAt, lineAt}
 use Rattle.constraints.specs.Linear.{variable}
@@ -43,8 +44,9 @@ named node isBase h =
 
 named-is : (c : tie.After-clause-of) → let a = c .before .before .before .before .before .before .before .before .before .before .args in c .clause-of .result ≡ named (now (a .node)) (a .«is-base») (c .before .before .before .before .before .before .before .line-head .result)
 named-is c =
+    let counted = c .before .before .before .before .before .before .before .before .before .before .pre .1 .2 in
     c .clause-of .ensures
-    ∙ rw (c .before .equation-of .ensures, c .before .before .kind-of .ensures, c .before .before .before .place-of .ensures)
+    ∙ rw (c .before .equation-among .ensures ∙ equation-among _ _ counted _, c .before .before .kind-among .ensures ∙ kind-among _ _ counted _, c .before .before .before .place-of .ensures)
 
 looked-up : (c : tie.After-clause-of) → let a = c .before .before .before .before .before .before .before .before .before .before .args in named (now (a .node)) (a .«is-base») (lineHeadAt (now (a .cert)) (a .at)) ≡ c .clause-of .result
 looked-up c =
@@ -79,11 +81,11 @@ returns c = rw (inside (c .before) ∙ not-true _ (c .if1 .taken))
 place-of-requires : tie.Need-place-of-requires
 place-of-requires c κs = search needs
 
-kind-of-requires : tie.Need-kind-of-requires
-kind-of-requires c κs = search needs
+kind-among-requires : tie.Need-kind-among-requires
+kind-among-requires c κs = search needs
 
-equation-of-requires : tie.Need-equation-of-requires
-equation-of-requires c κs = search needs
+equation-among-requires : tie.Need-equation-among-requires
+equation-among-requires c κs = search needs
 
 cast-clause-of : tie.Need-cast-clause-of
 cast-clause-of c = omega (arith, q-below (c .before .before .before), c .before .before .before .before .before .before .before .before .before .pre .1 .1)
@@ -128,8 +130,8 @@ equation-ok-spec =
     cast-q
     returns
     place-of-requires
-    kind-of-requires
-    equation-of-requires
+    kind-among-requires
+    equation-among-requires
     cast-clause-of
     clause-of-requires
     enum-known-c

@@ -6,7 +6,7 @@ use native.Mathlib.Omega.{arith}
 use denote.Ref.{now}
 use lib.ListN.{length}
 use Rattle.constraints.specs.Layout.{trailerOf}
-use Rattle.certificate.proofs.LineFacts.{readable, constants, equation-base, equation-step}
+use Rattle.certificate.proofs.LineFacts.{readable, constants, counted, equation-base, equation-step}
 use Rattle.certificate.proofs.Settings.{line-fits}
 use borrow.Author.Needs.{needs}
 use Rattle.certificate.proofs.lines.equation_passes.Statement.{statement}
@@ -45,7 +45,7 @@ deep c = rw (c .pre .0 .trailer) (c .pre .0 .ready .deep)
 equation-ok-requires : tie.Need-equation-ok-requires
 equation-ok-requires c κs =
     let ch = c .before .before .before .before .before .before .before .before .before .pre .0 in
-    ((rw (c .before .before .before .before .before .start-of .ensures) (readable _ _ _ _ _ _ ch), within (c .before .before .before .before)), (constants _ _ _ _ _ _ ch, omega (arith, deep (c .before .before .before .before .before .before .before .before .before))))
+    ((rw (c .before .before .before .before .before .start-of .ensures) (readable _ _ _ _ _ _ ch), within (c .before .before .before .before)), (constants _ _ _ _ _ _ ch, omega (arith, deep (c .before .before .before .before .before .before .before .before .before)), counted _ _ _ _ _ _ ch))
 
 add-equation-ok : tie.Need-add-equation-ok
 add-equation-ok c = search needs
@@ -53,7 +53,7 @@ add-equation-ok c = search needs
 equation-ok-requires-2 : tie.Need-equation-ok-requires-2
 equation-ok-requires-2 c κs =
     let ch = c .before .before .before .before .before .before .before .before .before .pre .0 in
-    ((rw (c .before .before .before .before .before .start-of .ensures) (readable _ _ _ _ _ _ ch), within (c .before .before .before .before)), (constants _ _ _ _ _ _ ch, omega (arith, deep (c .before .before .before .before .before .before .before .before .before))))
+    ((rw (c .before .before .before .before .before .start-of .ensures) (readable _ _ _ _ _ _ ch), within (c .before .before .before .before)), (constants _ _ _ _ _ _ ch, omega (arith, deep (c .before .before .before .before .before .before .before .before .before)), counted _ _ _ _ _ _ ch))
 
 returns : tie.Need-returns
 returns c =

@@ -6,7 +6,7 @@ use Rattle.answers.specs.declared.Found.the-variants.{Nothing}
 use Rattle.answers.specs.Checks.{lowest}
 use Rattle.constraints.specs.Layout.{trailerOf}
 use Rattle.rules.specs.Verdict.{constraintPasses, constraintsVerdict}
-use Rattle.certificate.proofs.Openings.{few-streams, start-room, constraints-room, constraints-searched, checking}
+use Rattle.certificate.proofs.Openings.{counted-streams, start-room, constraints-room, constraints-searched, checking}
 use borrow.Author.Needs.{needs}
 use Rattle.certificate.proofs.reading.constraints_verdict.Statement.{statement}
 use Rattle.certificate.proofs.reading.constraints_verdict.Tie as tie
@@ -22,7 +22,7 @@ none-found : (c : tie.After-enum-told) → let a = c .before .before .before .be
 none-found c = found-is (c .before .before) ∙ c .enum-told .given .1
 
 sorts-of-requires : tie.Need-sorts-of-requires
-sorts-of-requires c κs = let s = c .before .before in few-streams _ _ _ _ _ (s .pre .0) (s .pre .1)
+sorts-of-requires c κs = let s = c .before .before in counted-streams _ _ _ _ _ (s .pre .0) (s .pre .1)
 
 start-of-requires : tie.Need-start-of-requires
 start-of-requires c κs = let s = c .before .before .before in start-room _ _ _ _ _ (s .pre .0) (s .pre .1)

@@ -6,6 +6,7 @@ use native.Mathlib.Omega.{arith}
 use borrow.Author.Needs.{needs}
 use denote.Ref.{now}
 use lib.ListN.{length, getD, length-set}
+use Rattle.node.proofs.Records.{kind-among}
 use Rattle.rules.specs.Sorts.{sortOf, sortsBelow}
 use Rattle.certificate.proofs.SortList.{sorts-start, sorts-turn}
 use Rattle.certificate.proofs.sorts.sorts_of.Statement.{statement}
@@ -21,8 +22,8 @@ abbrev μ-loop : tie.MeasureT-loop
 loop-holds : tie.Need-loop-holds Inv-loop μ-loop
 loop-holds c = (search needs, refl, sorts-start _)
 
-kind-of-requires : tie.Need-kind-of-requires Inv-loop μ-loop
-kind-of-requires c κs = search needs
+kind-among-requires : tie.Need-kind-among-requires Inv-loop μ-loop
+kind-among-requires c κs = search needs
 
 sort-of-requires : tie.Need-sort-of-requires Inv-loop μ-loop
 sort-of-requires c κs = search needs
@@ -40,10 +41,10 @@ loop-again : tie.Need-loop-again Inv-loop μ-loop
 loop-again c =
     let at = c .before .before .before in
     let inv = at .loop .inv in
-    let within : at .loop .i < length (at .loop .sorts) = omega (arith, c .before .before .loop-test .taken, inv .1, at .before .before .pre) in (
+    let within : at .loop .i < length (at .loop .sorts) = omega (arith, c .before .before .loop-test .taken, inv .1, at .before .before .pre .0) in (
       search needs,
       simp length-set (inv .1),
-      sorts-turn (now (at .before .before .args .file)) (at .loop .sorts) (at .loop .i) (c .sort-of .result) within (c .sort-of .ensures ∙ ap sortOf (c .before .kind-of .ensures)) (inv .2),
+      sorts-turn (now (at .before .before .args .file)) (at .loop .sorts) (at .loop .i) (c .sort-of .result) within (c .sort-of .ensures ∙ ap sortOf (c .before .kind-among .ensures ∙ kind-among _ _ (at .before .before .pre .1) _)) (inv .2),
     )
 
 returns : tie.Need-returns Inv-loop μ-loop
@@ -58,7 +59,7 @@ sorts-of-spec =
     Inv-loop
     μ-loop
     loop-holds
-    kind-of-requires
+    kind-among-requires
     sort-of-requires
     array-write-sorts
     add-i
