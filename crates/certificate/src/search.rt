@@ -2,7 +2,7 @@
 use constraints::literal_at;
 ghost use Prim.Native.Nat.{_+_, _-_, _*_, _≤_};
 ghost use mathlib.Core.Path.{_≡_};
-ghost use mathlib.Core.Bool.{_&&_, _||_};
+ghost use mathlib.Core.Bool.{cond, _&&_, _||_};
 ghost use lib.Dec.{eqb};
 ghost use lib.ListN.{length};
 ghost use Rattle.answers.specs.Checks.{every};
@@ -21,9 +21,9 @@ fn is_in_four(file: &[u8], at: usize, count: usize, l: u16, j: usize) -> bool
         | ((j + 3 < count) & (literal_at(file, at, j + 3) == l))
 }
 
-// Literal l stands among those of the line at an offset, which lists count, but for the first fours. Four are looked at in each
-// call, and the rest by the next.
-pub fn stands_from(file: &[u8], at: usize, count: usize, l: u16, fours: usize) -> bool
+// Literal l stands in the line at an offset, which lists count, past the first `fours` fours. A call looks at the next four, and
+// calls itself on the rest.
+fn stands_from(file: &[u8], at: usize, count: usize, l: u16, fours: usize) -> bool
     requires { ⌜ (at + 80 ≤ length (now file)) × (count ≤ 12) × (fours ≤ 3) ⌝ }
     ensures { λ r. ⌜ r ≡ standsFrom (literalAt (now (file .entry)) at) l (4 * fours) (count - 4 * fours) ⌝ }
 {
@@ -62,13 +62,13 @@ fn is_covered(file: &[u8], at: usize, count: usize, l: u16, but: u16) -> bool
 // The place at which the next literal is looked for first.
 fn place_after(k: usize, found: bool) -> usize
     requires { ⌜ k ≤ 24 ⌝ }
-    ensures { λ r. ⌜ r ≤ k + 1 ⌝ }
+    ensures { λ r. ⌜ r ≡ cond «found» (k + 1) k ⌝ }
 {
     if found { k + 1 } else { k }
 }
 
 // One literal stands in the line at an offset, and each other literal of it in another line. Lines mostly keep the order of
-// literals: each is looked for after the last found, first at `from`, and searched for where it does not stand there.
+// literals: each is looked for past the one found last, the first at `from`, and is searched for where it does not stand there.
 pub fn covers(
     file: &[u8],
     at: usize,

@@ -2,9 +2,9 @@
 -- left out was among them.
 -- Assumes nothing.
 use mathlib.Core.Path.{_≡_, sym, _∙_}
-use mathlib.Core.Bool.{Bool, true, and-true, and-false, or-true, _&&_}
+use mathlib.Core.Bool.{Bool, true, false, cond, and-true, and-false, or-true, _&&_}
 use mathlib.Core.Logic.{⊎-elim}
-use Prim.Native.Nat.{_+_, _-_, _≤_}
+use Prim.Native.Nat.{ℕ, _+_, _-_, _≤_}
 use native.Mathlib.Omega.{arith}
 use borrow.Author.Needs.{needs}
 use borrow.Author.Tests.{not-true, not-false}
@@ -65,6 +65,11 @@ covered-here c =
     rw (sym (read .literal-at .ensures), found) (or-true (eqb (read .literal-at .result) (a .but))))
     (c .if1 .came)
 
+-- the next place is at most one further
+no-further : (t : Bool) (k : ℕ) → cond t (k + 1) k ≤ k + 1
+no-further true k = omega arith
+no-further false k = omega arith
+
 place-after-requires : tie.Need-place-after-requires Inv-loop μ-loop
 place-after-requires c κs =
     let turn = c .before .before .before in
@@ -85,7 +90,7 @@ loop-again c =
       search needs,
       rw (inv .1, read .literal-at .ensures) (sym (stands-last (literalAt (now (a .file)) (a .at)) (a .but) (turn .before .loop .j))),
       every-more _ _ (inv .2) (covered-here (c .before)),
-      omega (arith, inv .3, c .place-after .ensures),
+      omega (arith, inv .3, c .place-after .ensures, no-further (c .before .before .is-next .result) (turn .before .loop .k)),
     )
 
 -- two tests of which the second holds
