@@ -11,7 +11,7 @@ use differential::checker::{Checker, Record};
 use differential::draft::MAX_BLOCKS;
 use differential::largest;
 use differential::random::Random;
-use reference::build::{CertificateFile, NodeFile};
+use reference::build::{CertificateFile, Line, NodeFile};
 use std::hint::black_box;
 use std::time::Instant;
 
@@ -62,10 +62,9 @@ fn times(run: &dyn Fn(&dyn Checker)) -> Vec<Vec<f64>> {
     times
 }
 
-/// Measures all checkers and prints a line for each; gives the median times.
-fn measure(what: &str, per: usize, run: &dyn Fn(&dyn Checker)) -> Vec<f64> {
+/// Measures all checkers and prints a line for each.
+fn measure(what: &str, per: usize, run: &dyn Fn(&dyn Checker)) {
     let times = times(run);
-    let mut medians = Vec::new();
     for (own, checker) in times.iter().zip(CHECKERS) {
         let ratios = own.iter().zip(&times[0]).map(|(own, first)| own / first);
         let [ratio, low, high] = summary(ratios.collect());
@@ -76,66 +75,91 @@ fn measure(what: &str, per: usize, run: &dyn Fn(&dyn Checker)) -> Vec<f64> {
             checker.name(),
             median * 1e3 / per as f64
         );
-        medians.push(median * 1e-6);
     }
-    medians
 }
 
-/// A certificate of about 800 lines of each kind, and ten of 80: as many
-/// lines, so that neither is learnt by heart.
+/// Certificates of about 800 and of 80 lines, of each kind.
 fn verdicts(random: &mut Random) {
     for kind in largest::KINDS {
         let node = largest::node(random, kind.ints);
-        let large = verdict(random, kind, &node, 1, MAX_BLOCKS);
-        let small = verdict(random, kind, &node, 10, 80);
-        for ((checker, large), small) in CHECKERS.iter().zip(large).zip(small) {
-            println!(
-                "{:<40} {:<10} {large:.1} ns a line of the large, {small:.1} of the small: {:.2}",
-                kind.name,
-                checker.name(),
-                large / small
-            );
-        }
+        let large = largest::certificate(random, &node, 2, kind, MAX_BLOCKS);
+        let small = largest::certificate(random, &node, 2, kind, 80);
+        verdict(kind.name, &node, &large);
+        verdict(kind.name, &node, &small);
+        a_line(kind.name, &node, &small);
     }
 }
 
-/// Some certificates of about this many lines, checked in a row; gives what a
-/// line costs, in nanoseconds, without what they cost with no lines.
-fn verdict(
-    random: &mut Random,
-    kind: largest::Kind,
-    node: &NodeFile,
-    some: usize,
-    lines: usize,
-) -> Vec<f64> {
-    let mut all: Vec<_> = (0..some)
-        .map(|_| largest::certificate(random, node, 2, kind, lines))
-        .collect();
-    let node = node.bytes();
-    let count = |c: &CertificateFile| c.base.len() + c.step.len();
-    let lines = all.iter().map(count).sum();
-    let what = format!("{}: {some} of {} lines", kind.name, lines / some);
-    let bytes = |all: &[CertificateFile]| all.iter().map(CertificateFile::bytes).collect();
-    let whole: Vec<Vec<u8>> = bytes(&all);
-    let accepted = |by: &&dyn Checker| whole.iter().all(|c| by.check(&node, c).is_ok());
+/// How many lines a certificate has.
+fn lines(certificate: &CertificateFile) -> usize {
+    certificate.base.len() + certificate.step.len()
+}
+
+/// The verdict on a certificate.
+fn verdict(kind: &str, node: &NodeFile, certificate: &CertificateFile) {
+    let (count, constraints) = (lines(certificate), certificate.constraints.len());
+    let what = format!("{kind}: {count} lines, {constraints} constraints");
+    let (node, certificate) = (node.bytes(), certificate.bytes());
+    let accepted = |by: &&dyn Checker| by.check(&node, &certificate).is_ok();
     assert!(CHECKERS.iter().all(accepted));
-    let of_all = measure(&what, lines, &|checker| check(checker, &node, &whole));
-    for certificate in &mut all {
-        certificate.base.clear();
-        certificate.step.clear();
-    }
-    let bare: Vec<Vec<u8>> = bytes(&all);
-    let of_none = times(&|checker| check(checker, &node, &bare));
-    let of_none = of_none.into_iter().map(|times| summary(times)[0]);
-    let a_line = |(all, none): (f64, f64)| (all - none) * 1e9 / lines as f64;
-    of_all.into_iter().zip(of_none).map(a_line).collect()
+    measure(&what, count, &|checker| check(checker, &node, &certificate));
 }
 
-/// Checks certificates in a row.
-fn check(checker: &dyn Checker, node: &[u8], certificates: &[Vec<u8>]) {
-    for certificate in certificates {
-        let _ = black_box(checker.check(black_box(node), black_box(certificate)));
+fn check(checker: &dyn Checker, node: &[u8], certificate: &[u8]) {
+    let _ = black_box(checker.check(black_box(node), black_box(certificate)));
+}
+
+/// What a line costs in a certificate, and in one that has the same lines nine
+/// times over; in both without what the certificate costs with no lines.
+fn a_line(kind: &str, node: &NodeFile, small: &CertificateFile) {
+    let node = node.bytes();
+    let cost = |certificate: &CertificateFile| -> Vec<f64> {
+        let bytes = certificate.bytes();
+        let medians = times(&|checker| check(checker, &node, &bytes)).into_iter();
+        medians.map(|times| summary(times)[0]).collect()
+    };
+    let (none, once, often) = (repeated(small, 0), repeated(small, 1), repeated(small, 9));
+    let accepted = |by: &&dyn Checker| by.check(&node, &often.bytes()).is_ok();
+    assert!(CHECKERS.iter().all(accepted));
+    let (rest, few, many) = (cost(&none), cost(&once), cost(&often));
+    for (i, checker) in CHECKERS.iter().enumerate() {
+        let each = |all: &[f64], of: &CertificateFile| (all[i] - rest[i]) * 1e9 / lines(of) as f64;
+        let (few, many) = (each(&few, &once), each(&many, &often));
+        println!(
+            "{:<40} {:<10} {few:.1} ns a line of {}, {many:.1} of {}: {:.2}",
+            format!("{kind}: the same lines"),
+            checker.name(),
+            lines(&once),
+            lines(&often),
+            many / few
+        );
     }
+}
+
+/// A certificate whose parts have the same lines some times over.
+fn repeated(certificate: &CertificateFile, times: usize) -> CertificateFile {
+    let (base, step) = (&certificate.base, &certificate.step);
+    let mut all = certificate.clone();
+    all.base = repeated_part(base, times, 0, 0);
+    all.step = repeated_part(step, times, base.len(), times * base.len());
+    all
+}
+
+/// A part's lines some times over, where its line 0 was one number and is
+/// another: joins cite the lines of their own turn.
+fn repeated_part(part: &[Line], times: usize, was: usize, is: usize) -> Vec<Line> {
+    let turn = |turn: usize| {
+        let moved = (is + turn * part.len() - was) as u16;
+        part.iter().map(move |line| {
+            let mut line = line.clone();
+            if line.kind == 3 {
+                line.p += moved;
+                line.q += moved;
+            }
+            line
+        })
+    };
+    (0..times).flat_map(turn).collect()
 }
 
 /// The reader on 64 streams.
