@@ -29,10 +29,19 @@ fn is_clause(cert: &[u8], start: usize, m: usize, at: usize, c: Clause) -> bool
     let second = c.second;
     let third = c.third;
     let count = line_head(cert, at).count as usize;
-    (count == c.count)
-        & matches(cert, start, m, first, literal_at(cert, at, 0))
-        & ((c.count <= 1) | matches(cert, start, m, second, literal_at(cert, at, 1)))
-        & ((c.count <= 2) | matches(cert, start, m, third, literal_at(cert, at, 2)))
+    if !((count == c.count) & matches(cert, start, m, first, literal_at(cert, at, 0))) {
+        return false;
+    }
+    if c.count <= 1 {
+        return true;
+    }
+    if !matches(cert, start, m, second, literal_at(cert, at, 1)) {
+        return false;
+    }
+    if c.count <= 2 {
+        return true;
+    }
+    matches(cert, start, m, third, literal_at(cert, at, 2))
 }
 
 // Where offset q of a part stands.

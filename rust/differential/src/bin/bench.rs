@@ -50,25 +50,30 @@ fn summary(mut numbers: Vec<f64>) -> [f64; 3] {
     [2, 1, 3].map(|quarters| numbers[quarters * (numbers.len() - 1) / 4])
 }
 
-/// The times of all checkers, by turns.
-fn times(run: &dyn Fn(&dyn Checker)) -> Vec<Vec<f64>> {
-    let runs = runs(&|| run(CHECKERS[0]));
-    let mut times = vec![Vec::new(); CHECKERS.len()];
-    for _ in 0..ROUNDS {
-        for (times, checker) in times.iter_mut().zip(CHECKERS) {
-            times.push(seconds(&|| run(*checker), runs));
-        }
-    }
-    times
+/// Something that is measured.
+type Turn<'a> = Box<dyn Fn() + 'a>;
+
+/// The seconds that each takes in each round, by turns.
+fn rounds(turns: &[Turn]) -> Vec<Vec<f64>> {
+    let turns: Vec<_> = turns.iter().map(|turn| (turn, runs(turn))).collect();
+    let round = |_| {
+        turns
+            .iter()
+            .map(|(turn, runs)| seconds(turn, *runs))
+            .collect()
+    };
+    (0..ROUNDS).map(round).collect()
 }
 
 /// Measures all checkers and prints a line for each.
 fn measure(what: &str, per: usize, run: &dyn Fn(&dyn Checker)) {
-    let times = times(run);
-    for (own, checker) in times.iter().zip(CHECKERS) {
-        let ratios = own.iter().zip(&times[0]).map(|(own, first)| own / first);
+    let turn = |checker: &'static dyn Checker| -> Turn { Box::new(move || run(checker)) };
+    let rounds = rounds(&CHECKERS.iter().copied().map(turn).collect::<Vec<_>>());
+    for (i, checker) in CHECKERS.iter().enumerate() {
+        let ratios = rounds.iter().map(|round| round[i] / round[0]);
         let [ratio, low, high] = summary(ratios.collect());
-        let [median, least, most] = summary(own.clone()).map(|time| time * 1e6);
+        let own = rounds.iter().map(|round| round[i] * 1e6);
+        let [median, least, most] = summary(own.collect());
         println!(
             "{what:<40} {:<10} {median:>8.2} us ({least:.2} to {most:.2}) {:>7.1} ns each, \
              ratio {ratio:.2} ({low:.2} to {high:.2})",
@@ -113,25 +118,29 @@ fn check(checker: &dyn Checker, node: &[u8], certificate: &[u8]) {
 /// times over; in both without what the certificate costs with no lines.
 fn a_line(kind: &str, node: &NodeFile, small: &CertificateFile) {
     let node = node.bytes();
-    let cost = |certificate: &CertificateFile| -> Vec<f64> {
-        let bytes = certificate.bytes();
-        let medians = times(&|checker| check(checker, &node, &bytes)).into_iter();
-        medians.map(|times| summary(times)[0]).collect()
-    };
-    let (none, once, often) = (repeated(small, 0), repeated(small, 1), repeated(small, 9));
-    let accepted = |by: &&dyn Checker| by.check(&node, &often.bytes()).is_ok();
-    assert!(CHECKERS.iter().all(accepted));
-    let (rest, few, many) = (cost(&none), cost(&once), cost(&often));
-    for (i, checker) in CHECKERS.iter().enumerate() {
-        let each = |all: &[f64], of: &CertificateFile| (all[i] - rest[i]) * 1e9 / lines(of) as f64;
-        let (few, many) = (each(&few, &once), each(&many, &often));
+    let often = repeated(small, 9);
+    let (few, many) = (lines(small), lines(&often));
+    let [none, once, often] = [&repeated(small, 0), small, &often].map(CertificateFile::bytes);
+    for &checker in CHECKERS {
+        assert!(checker.check(&node, &often).is_ok());
+        let rounds = rounds(
+            &[&none, &once, &often]
+                .map(|bytes| -> Turn { Box::new(|| check(checker, &node, bytes)) }),
+        );
+        let cost =
+            |round: &Vec<f64>, i: usize, lines: usize| (round[i] - round[0]) * 1e9 / lines as f64;
+        let costs = |i: usize, lines: usize| rounds.iter().map(move |round| cost(round, i, lines));
+        let ratios = costs(1, few)
+            .zip(costs(2, many))
+            .map(|(once, often)| often / once);
+        let [ratio, low, high] = summary(ratios.collect());
         println!(
-            "{:<40} {:<10} {few:.1} ns a line of {}, {many:.1} of {}: {:.2}",
+            "{:<40} {:<10} {:.1} ns a line of {few}, {:.1} of {many}: \
+             ratio {ratio:.2} ({low:.2} to {high:.2})",
             format!("{kind}: the same lines"),
             checker.name(),
-            lines(&once),
-            lines(&often),
-            many / few
+            summary(costs(1, few).collect())[0],
+            summary(costs(2, many).collect())[0]
         );
     }
 }
