@@ -1,7 +1,7 @@
 -- The search for a literal: one step and four at a time, from the front and at the end.
 -- Assumes nothing.
 use mathlib.Core.Path.{_≡_, refl, sym, subst, _∙_, ap}
-use mathlib.Core.Bool.{Bool, true, false, _||_, or-true, or-false}
+use mathlib.Core.Bool.{Bool, true, false, _||_, or-true, or-false, false≢true}
 use mathlib.Core.Logic.{⊎-elim}
 use Prim.Native.Nat.{ℕ, zero, suc, _+_, _-_, _<_, _≤_}
 use native.Mathlib.Nat.{sub-zero, not-suc-le-zero, eq-or-lt-of-le, le-of-suc-le-suc}
@@ -69,7 +69,7 @@ module _ (literal : ℕ → ℕ) (l : ℕ) where
       ap (λ (b : Bool). eqb (literal i) l || b) (last-from (suc i) n ∙ ap (λ (k : ℕ). standsFrom literal l (suc i) n || eqb (literal k) l) at-end)
       ∙ or-turn (eqb (literal i) l) (standsFrom literal l (suc i) n) (eqb (literal (i + suc n)) l)
 
-  pub stands-last : (n : ℕ) → standsFrom literal l 0 (n + 1) ≡ (standsFrom literal l 0 n || eqb (literal n) l)
+  stands-last : (n : ℕ) → standsFrom literal l 0 (n + 1) ≡ (standsFrom literal l 0 n || eqb (literal n) l)
   stands-last n = let e : 0 + n ≡ n = omega arith in rw add-one (last-from 0 n ∙ rw e)
 
   -- wherever it stands, the search finds it
@@ -87,5 +87,8 @@ module _ (literal : ℕ → ℕ) (l : ℕ) where
       let both = both-true (ltb k count) (eqb (literal k) l) e in
       stands-at count k (ltb-true k count (both .0)) (both .1)
 
-  pub stands-none : (count : ℕ) → count < 1 → standsFrom literal l 0 count ≡ false
-  stands-none count h = rw sub-zero at (stands-past literal l 0 count (omega arith))
+  -- .. and a line without literals has none
+  pub stands-some : (count : ℕ) → standsFrom literal l 0 count ≡ true → 1 ≤ count
+  unfolding standsFrom
+  stands-some zero e = absurd (false≢true e)
+  stands-some (suc n) e = omega arith

@@ -1,5 +1,6 @@
 // Rule 19: joins.
 use crate::search::covers;
+use crate::search::stands_from;
 use clauses::Literal;
 use constraints::line_head;
 ghost use Prim.Native.Nat.{_+_, _*_, _<_, _≤_};
@@ -21,10 +22,11 @@ fn is_join(file: &[u8], p: usize, q: usize, r: u16, at: usize) -> bool
     let in_p = line_head(file, p).count as usize;
     let in_q = line_head(file, q).count as usize;
     let here = line_head(file, at).count as usize;
-    if in_p < 1 {
+    if !(stands_from(file, p, in_p, r, 0) & stands_from(file, q, in_q, s, 0)) {
         return false;
     }
-    covers(file, p, in_p, r, at, here, 0) & covers(file, q, in_q, s, at, here, in_p - 1)
+    let left = in_p - 1;
+    covers(file, p, in_p, r, at, here, 0) & covers(file, q, in_q, s, at, here, left)
 }
 
 // Rule 19, of line i, where line 0 stands at an offset and the part begins at line `from`.

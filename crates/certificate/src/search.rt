@@ -2,7 +2,7 @@
 use constraints::literal_at;
 ghost use Prim.Native.Nat.{_+_, _-_, _*_, _≤_};
 ghost use mathlib.Core.Path.{_≡_};
-ghost use mathlib.Core.Bool.{cond, _&&_, _||_};
+ghost use mathlib.Core.Bool.{cond, _||_};
 ghost use lib.Dec.{eqb};
 ghost use lib.ListN.{length};
 ghost use Rattle.answers.specs.Checks.{every};
@@ -23,7 +23,7 @@ fn is_in_four(file: &[u8], at: usize, count: usize, l: u16, j: usize) -> bool
 
 // Literal l stands in the line at an offset, which lists count, past the first `fours` fours. A call looks at the next four, and
 // calls itself on the rest.
-fn stands_from(file: &[u8], at: usize, count: usize, l: u16, fours: usize) -> bool
+pub fn stands_from(file: &[u8], at: usize, count: usize, l: u16, fours: usize) -> bool
     requires { ⌜ (at + 80 ≤ length (now file)) × (count ≤ 12) × (fours ≤ 3) ⌝ }
     ensures { λ r. ⌜ r ≡ standsFrom (literalAt (now (file .entry)) at) l (4 * fours) (count - 4 * fours) ⌝ }
 {
@@ -67,8 +67,8 @@ fn place_after(k: usize, found: bool) -> usize
     if found { k + 1 } else { k }
 }
 
-// One literal stands in the line at an offset, and each other literal of it in another line. Lines mostly keep the order of
-// literals: each is looked for past the one found last, the first at `from`, and is searched for where it does not stand there.
+// Each literal of the line at an offset but one stands in another line. Lines mostly keep the order of literals: each is looked
+// for past the one found last, the first at `from`, and is searched for where it does not stand there.
 pub fn covers(
     file: &[u8],
     at: usize,
@@ -79,9 +79,8 @@ pub fn covers(
     from: usize,
 ) -> bool
     requires { ⌜ (at + 80 ≤ length (now file)) × (count ≤ 12) × (other + 80 ≤ length (now file)) × (others ≤ 12) × (from ≤ 12) ⌝ }
-    ensures { λ r. ⌜ r ≡ (standsFrom (literalAt (now (file .entry)) at) but 0 count && every (coveredBy (literalAt (now (file .entry)) at) but (literalAt (now (file .entry)) other) others) count) ⌝ }
+    ensures { λ r. ⌜ r ≡ every (coveredBy (literalAt (now (file .entry)) at) but (literalAt (now (file .entry)) other) others) count ⌝ }
 {
-    let mut stands = false;
     let mut k = from;
     let mut j = 0;
     while j < count {
@@ -92,9 +91,8 @@ pub fn covers(
                 return false;
             }
         }
-        stands = stands | (l == but);
         k = place_after(k, next);
         j += 1;
     }
-    stands
+    true
 }

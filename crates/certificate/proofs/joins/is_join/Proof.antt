@@ -1,24 +1,22 @@
--- `certificate::is_join` meets its contract: the tests of both lines, with the counts that were read.
+-- `certificate::is_join` meets its contract: the four searches in a row, with the counts that were read.
 -- Assumes nothing.
-use mathlib.Core.Path.{_≡_, refl, ap}
-use mathlib.Core.Bool.{Bool, true, false, _&&_, and-false}
-use Prim.Native.Nat.{_≤_}
+use mathlib.Core.Path.{_≡_, refl, sym, _∙_, ap}
+use mathlib.Core.Bool.{Bool, _&&_}
+use mathlib.Core.List.{List}
+use Prim.Native.Nat.{ℕ, _-_, _≤_}
+use native.Mathlib.Nat.{sub-zero}
 use native.Mathlib.Omega.{arith}
-use denote.Ref.{now}
-use Rattle.constraints.specs.declared.layout.LineHead.{LineHead}
-use Rattle.constraints.specs.Layout.{lineAt, literalAt}
-use Rattle.rules.specs.Literals.{oppositeOf}
-use Rattle.rules.specs.Joins.{standsIn, covered, joins}
-use Rattle.certificate.proofs.Standing.{stands-none}
 use borrow.Author.Needs.{needs}
+use borrow.Author.Tests.{not-true, not-false}
+use denote.Ref.{now}
+use Rattle.answers.proofs.Tests.{both-true}
+use Rattle.constraints.specs.declared.layout.LineHead.{LineHead}
+use Rattle.constraints.specs.Layout.{Line, lineAt, literalAt}
+use Rattle.rules.specs.Literals.{oppositeOf}
+use Rattle.rules.specs.Joins.{standsFrom, standsIn, joins}
+use Rattle.certificate.proofs.Standing.{stands-some}
 use Rattle.certificate.proofs.joins.is_join.Statement.{statement}
 use Rattle.certificate.proofs.joins.is_join.Tie as tie
-
--- the four tests in the definition's order
-in-turn : (a b c d : Bool) → ((a && c) && (b && d)) ≡ (((a && b) && c) && d)
-in-turn true true c d = refl
-in-turn true false c d = and-false c
-in-turn false b c d = refl
 
 opposite-requires : tie.Need-opposite-requires
 opposite-requires c κs = search needs
@@ -51,50 +49,84 @@ few-q c = rw (c .line-head2 .ensures) (c .before .before .before .before .before
 few-here : (c : tie.After-line-head3) → c .line-head3 .result .count ≤ 12
 few-here c = rw (c .line-head3 .ensures) (c .before .before .before .before .before .before .before .pre .1 .2)
 
--- the count of p that was read is the line's
-in-p-is : (c : tie.After-line-head3) → let a = c .before .before .before .before .before .before .before .args in c .before .before .before .before .line-head .result .count ≡ lineAt (now (a .file)) (a .p) .head .count
-in-p-is c = ap (λ (h : LineHead). h .count) (c .before .before .before .before .line-head .ensures)
+stands-from-requires : tie.Need-stands-from-requires
+stands-from-requires c κs =
+    let here = c .before in
+    (here .before .before .before .before .before .before .before .pre .0 .0, few-p (here .before .before .before .before), search needs)
+
+stands-from-requires-2 : tie.Need-stands-from-requires-2
+stands-from-requires-2 c κs =
+    let here = c .before .before in
+    (here .before .before .before .before .before .before .before .pre .0 .1, few-q (here .before .before), search needs)
+
+-- a search over the head that was read is one over the line's
+searched : (literal : ℕ → ℕ) (l m : ℕ) (read head : LineHead) → l ≡ m → read ≡ head → standsFrom literal l 0 (read .count - 0) ≡ standsFrom literal m 0 (head .count)
+searched literal l m read head e f = rw (e, f, sub-zero)
+
+-- what both searches say, of the lines
+module _ (c : tie.After-stands-from2) where
+  abbrev here : tie.After-line-head3
+  here = c .before .before .before
+
+  abbrev in-p : tie.After-line-head
+  in-p = here .before .before .before .before
+
+  abbrev bytes : List ℕ
+  bytes = now (in-p .before .before .before .args .file)
+
+  abbrev p : Line
+  p = lineAt bytes (in-p .before .before .before .args .p)
+
+  abbrev q : Line
+  q = lineAt bytes (in-p .before .before .before .args .q)
+
+  abbrev r : ℕ
+  r = in-p .before .before .before .args .r
+
+  in-p-is : c .before .stands-from .result ≡ standsIn p r
+  in-p-is = c .before .stands-from .ensures ∙ searched (p .literal) r r _ (p .head) refl (in-p .line-head .ensures)
+
+  in-q-is : c .stands-from2 .result ≡ standsIn q (oppositeOf r)
+  in-q-is =
+      c .stands-from2 .ensures ∙ searched (q .literal) _ (oppositeOf r) _ (q .head) (in-p .before .opposite .ensures) (here .before .before .line-head2 .ensures)
+
+  pub both-are : (c .before .stands-from .result && c .stands-from2 .result) ≡ (standsIn p r && standsIn q (oppositeOf r))
+  both-are =
+      ap (λ (t : Bool). t && c .stands-from2 .result) in-p-is ∙ ap (λ (t : Bool). standsIn p r && t) in-q-is
 
 returns : tie.Need-returns
 unfolding joins
-returns c =
-    let here = c .before .before in
-    let a = here .before .before .before .before .before .before .before .args in
-    let none = stands-none (literalAt (now (a .file)) (a .p)) (a .r) (lineAt (now (a .file)) (a .p) .head .count) (rw (in-p-is here) at (c .if1 .taken)) in
-    rw none
+returns c = rw (sym (both-are (c .before)) ∙ not-true _ (c .if1 .taken))
+
+sub-left : tie.Need-sub-left
+sub-left c =
+    let tests = c .before in
+    let read = tests .before .before .before .before .before .before .before in
+    let a = read .before .before .before .args in
+    let stands = both-true (tests .before .stands-from .result) (tests .stands-from2 .result) (not-false _ (c .if1 .left)) in
+    stands-some (literalAt (now (a .file)) (a .p)) (a .r) (read .line-head .result .count) (simp sub-zero at (sym (tests .before .stands-from .ensures) ∙ stands .0))
 
 covers-requires : tie.Need-covers-requires
 covers-requires c κs =
-    let here = c .before .before in
+    let here = c .before .before .before .before in
     let asked = here .before .before .before .before .before .before .before .pre .0 in
     (asked .0, few-p (here .before .before .before .before), asked .2, few-here here, search needs)
 
 covers-requires-2 : tie.Need-covers-requires-2
 covers-requires-2 c κs =
-    let here = c .before .before .before in
+    let here = c .before .before .before .before .before in
     let asked = here .before .before .before .before .before .before .before .pre .0 in
     (asked .1, few-q (here .before .before), asked .2, few-here here, omega (arith, few-p (here .before .before .before .before)))
 
 returns-2 : tie.Need-returns-2
 unfolding joins
 returns-2 c =
-    let here = c .before .before .before .before in
+    let tests = c .before .before .before in
+    let here = tests .before .before .before in
     let in-q = here .before .before in
     let in-p = in-q .before .before in
-    let a = in-p .before .before .before .args in
-    let p = lineAt (now (a .file)) (a .p) in
-    let q = lineAt (now (a .file)) (a .q) in
-    let line = lineAt (now (a .file)) (a .at) in
-    let opposite = oppositeOf (a .r) in
-    rw (
-      c .before .covers .ensures,
-      c .covers2 .ensures,
-      here .line-head3 .ensures,
-      in-q .line-head2 .ensures,
-      in-p .line-head .ensures,
-      in-p .before .opposite .ensures,
-    )
-    (in-turn (standsIn p (a .r)) (standsIn q opposite) (covered p (a .r) line) (covered q opposite line))
+    let stand = sym (both-are tests) ∙ not-false _ (c .before .before .if1 .left) in
+    rw (stand, c .before .covers .ensures, c .covers2 .ensures, here .line-head3 .ensures, in-q .line-head2 .ensures, in-p .line-head .ensures, in-p .before .opposite .ensures)
 
 pub is-join-spec : {M : Type 1} → statement M
 is-join-spec =
@@ -107,7 +139,10 @@ is-join-spec =
     cast-in-q
     line-head-requires-3
     cast-here
+    stands-from-requires
+    stands-from-requires-2
     returns
+    sub-left
     covers-requires
     covers-requires-2
     returns-2)

@@ -1,8 +1,7 @@
--- `certificate::covers` meets its contract. The loop's invariant: each literal passed is covered, and it is known whether the one
--- left out was among them.
+-- `certificate::covers` meets its contract. The loop's invariant: each literal passed is covered.
 -- Assumes nothing.
 use mathlib.Core.Path.{_≡_, sym, _∙_}
-use mathlib.Core.Bool.{Bool, true, false, cond, and-true, and-false, or-true, _&&_}
+use mathlib.Core.Bool.{Bool, true, false, cond, or-true}
 use mathlib.Core.Logic.{⊎-elim}
 use Prim.Native.Nat.{ℕ, _+_, _-_, _≤_}
 use native.Mathlib.Omega.{arith}
@@ -13,24 +12,22 @@ use lib.Dec.{eqb}
 use Rattle.answers.specs.Checks.{every}
 use Rattle.answers.proofs.Every.{every-none, every-more, every-not}
 use Rattle.constraints.specs.Layout.{literalAt}
-use Rattle.rules.specs.Joins.{standsFrom, coveredBy}
-use Rattle.certificate.proofs.Standing.{stands-last, stands-here}
+use Rattle.rules.specs.Joins.{coveredBy}
+use Rattle.certificate.proofs.Standing.{stands-here}
 use Rattle.certificate.proofs.search.covers.Statement.{statement}
 use Rattle.certificate.proofs.search.covers.Tie as tie
 
 abbrev Inv-loop : tie.InvT-loop
-Inv-loop file at count but other others from stands₀ k₀ j₀ stands k j =
+Inv-loop file at count but other others from k₀ j₀ k j =
     (j ≤ count)
-    × (stands ≡ standsFrom (literalAt file at) but 0 j)
     × (every (coveredBy (literalAt file at) but (literalAt file other) others) j ≡ true)
     × (k ≤ from + j)
 
 abbrev μ-loop : tie.MeasureT-loop
-μ-loop file at count but other others from stands₀ k₀ j₀ stands k j = count - j
+μ-loop file at count but other others from k₀ j₀ k j = count - j
 
 loop-holds : tie.Need-loop-holds Inv-loop μ-loop
-unfolding standsFrom
-loop-holds c = (search needs, search needs, every-none _, search needs)
+loop-holds c = (search needs, every-none _, search needs)
 
 literal-at-requires : tie.Need-literal-at-requires Inv-loop μ-loop
 literal-at-requires c κs = search needs
@@ -49,8 +46,7 @@ returns : tie.Need-returns Inv-loop μ-loop
 returns c =
     let turn = c .before .before .before .before .before in
     let a = turn .before .before .before .args in
-    let missed = every-not (coveredBy (literalAt (now (a .file)) (a .at)) (a .but) (literalAt (now (a .file)) (a .other)) (a .others)) (turn .before .loop .j) (a .count) (turn .loop-test .taken) (test-is (c .before) ∙ not-true _ (c .if2 .taken)) in
-    sym (rw missed (and-false (standsFrom (literalAt (now (a .file)) (a .at)) (a .but) 0 (a .count))))
+    sym (every-not (coveredBy (literalAt (now (a .file)) (a .at)) (a .but) (literalAt (now (a .file)) (a .other)) (a .others)) (turn .before .loop .j) (a .count) (turn .loop-test .taken) (test-is (c .before) ∙ not-true _ (c .if2 .taken)))
 
 -- a literal that stands where it was looked for first, or is left out, or is found, is covered
 covered-here : (c : tie.Joined1 Inv-loop μ-loop) → let turn = c .before .before .before in let a = turn .before .before .before .args in coveredBy (literalAt (now (a .file)) (a .at)) (a .but) (literalAt (now (a .file)) (a .other)) (a .others) (turn .before .loop .j) ≡ true
@@ -73,7 +69,7 @@ no-further false k = omega arith
 place-after-requires : tie.Need-place-after-requires Inv-loop μ-loop
 place-after-requires c κs =
     let turn = c .before .before .before in
-    omega (arith, turn .before .loop .inv .3, turn .loop-test .taken, turn .before .before .before .pre)
+    omega (arith, turn .before .loop .inv .2, turn .loop-test .taken, turn .before .before .before .pre)
 
 add-j : tie.Need-add-j Inv-loop μ-loop
 add-j c = search needs
@@ -85,23 +81,16 @@ loop-again : tie.Need-loop-again Inv-loop μ-loop
 loop-again c =
     let read = c .before .before .before in
     let turn = read .before in
-    let a = turn .before .before .before .args in
     let inv = turn .before .loop .inv in (
       search needs,
-      rw (inv .1, read .literal-at .ensures) (sym (stands-last (literalAt (now (a .file)) (a .at)) (a .but) (turn .before .loop .j))),
-      every-more _ _ (inv .2) (covered-here (c .before)),
-      omega (arith, inv .3, c .place-after .ensures, no-further (c .before .before .is-next .result) (turn .before .loop .k)),
+      every-more _ _ (inv .1) (covered-here (c .before)),
+      omega (arith, inv .2, c .place-after .ensures, no-further (c .before .before .is-next .result) (turn .before .loop .k)),
     )
-
--- two tests of which the second holds
-known : (a b c : Bool) → a ≡ b → c ≡ true → a ≡ (b && c)
-known a b c e f = e ∙ sym (rw f (and-true b))
 
 returns-2 : tie.Need-returns-2 Inv-loop μ-loop
 returns-2 c =
-    let inv = c .before .loop .inv in
     let j-is : c .before .loop .j ≡ c .before .before .before .args .count = omega arith in
-    known (c .before .loop .stands) _ _ (rw j-is at (inv .1)) (rw j-is at (inv .2))
+    sym (rw j-is at (c .before .loop .inv .1))
 
 pub covers-spec : {M : Type 1} → statement M
 covers-spec =
