@@ -53,6 +53,10 @@ module _ (literal : ℕ → ℕ) (l count : ℕ) where
       ∙ rw (step-to (j + 1) (j + 2) (omega arith), step-to (j + 2) (j + 3) (omega arith), step-to (j + 3) (j + 4) (omega arith))
       (five (isAt literal l count j) (isAt literal l count (j + 1)) (isAt literal l count (j + 2)) (isAt literal l count (j + 3)) (from (j + 4)))
 
+  -- the first four and what is left
+  pub stands-first : standsFrom literal l 0 count ≡ (inFour literal l count 0 || from 4)
+  stands-first = simp sub-zero at (stands-four 0)
+
 -- ---- from the end
 
 or-turn : (a b c : Bool) → (a || (b || c)) ≡ ((a || b) || c)

@@ -1,6 +1,6 @@
 // Rule 19: joins.
 use crate::search::covers;
-use crate::search::stands_from;
+use crate::search::stands_in;
 use clauses::Literal;
 use constraints::line_head;
 ghost use Prim.Native.Nat.{_+_, _*_, _<_, _≤_};
@@ -22,7 +22,7 @@ fn is_join(file: &[u8], p: usize, q: usize, r: u16, at: usize) -> bool
     let in_p = line_head(file, p).count as usize;
     let in_q = line_head(file, q).count as usize;
     let here = line_head(file, at).count as usize;
-    if !(stands_from(file, p, in_p, r, 0) & stands_from(file, q, in_q, s, 0)) {
+    if !(stands_in(file, p, in_p, r) & stands_in(file, q, in_q, s)) {
         return false;
     }
     let left = in_p - 1;

@@ -23,7 +23,7 @@ fn is_in_four(file: &[u8], at: usize, count: usize, l: u16, j: usize) -> bool
 
 // Literal l stands in the line at an offset, which lists count, past the first `fours` fours. A call looks at the next four, and
 // calls itself on the rest.
-pub fn stands_from(file: &[u8], at: usize, count: usize, l: u16, fours: usize) -> bool
+fn stands_from(file: &[u8], at: usize, count: usize, l: u16, fours: usize) -> bool
     requires { ⌜ (at + 80 ≤ length (now file)) × (count ≤ 12) × (fours ≤ 3) ⌝ }
     ensures { λ r. ⌜ r ≡ standsFrom (literalAt (now (file .entry)) at) l (4 * fours) (count - 4 * fours) ⌝ }
 {
@@ -35,6 +35,21 @@ pub fn stands_from(file: &[u8], at: usize, count: usize, l: u16, fours: usize) -
         return true;
     }
     stands_from(file, at, count, l, fours + 1)
+}
+
+// Literal l stands in the line at an offset, which lists count. Most lines list few: the search is asked for what is left past the
+// first four.
+pub fn stands_in(file: &[u8], at: usize, count: usize, l: u16) -> bool
+    requires { ⌜ (at + 80 ≤ length (now file)) × (count ≤ 12) ⌝ }
+    ensures { λ r. ⌜ r ≡ standsFrom (literalAt (now (file .entry)) at) l 0 count ⌝ }
+{
+    if is_in_four(file, at, count, l, 0) {
+        return true;
+    }
+    if count <= 4 {
+        return false;
+    }
+    stands_from(file, at, count, l, 1)
 }
 
 // Literal l is literal k of the line at an offset, which lists count.
@@ -56,7 +71,7 @@ fn is_covered(file: &[u8], at: usize, count: usize, l: u16, but: u16) -> bool
     if l == but {
         return true;
     }
-    stands_from(file, at, count, l, 0)
+    stands_in(file, at, count, l)
 }
 
 // The place at which the next literal is looked for first.
