@@ -22,7 +22,7 @@ i64-at-requires : tie.Need-i64-at-requires
 i64-at-requires c κs = search needs
 
 returns : tie.Need-returns
-returns c = rw (toZ-ofZ w64 _ (record { sfits = c .i64-at .ok })) cc
+returns c = rw (toZ-ofZ w64 _ (record { sfits = c .i64-at .ok }), c .i64-at .ensures, c .before .zeros-at .ensures)
 
 pub constraint-head-spec : {M : Type 1} → statement M
 constraint-head-spec =

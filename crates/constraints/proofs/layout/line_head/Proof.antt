@@ -32,7 +32,8 @@ u16-at-requires-3 : tie.Need-u16-at-requires-3
 u16-at-requires-3 c κs = search needs
 
 returns : tie.Need-returns
-returns c = cc
+returns c =
+    rw (c .u16-at3 .ensures, c .before .u16-at2 .ensures, c .before .before .u16-at .ensures)
 
 pub line-head-spec : {M : Type 1} → statement M
 line-head-spec =

@@ -49,7 +49,7 @@ cast-t14 : tie.Need-cast-t14
 cast-t14 c = rw (read c) (wide c)
 
 returns : tie.Need-returns
-returns c = rw (read c, toZ-ofZ w64 _ (wide c)) cc
+returns c = rw (read c, toZ-ofZ w64 _ (wide c), c .i32-at .ensures, c .before .before .before .u16-at .ensures)
 
 pub term-at-spec : {M : Type 1} → statement M
 term-at-spec =

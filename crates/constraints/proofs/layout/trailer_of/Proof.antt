@@ -59,7 +59,9 @@ u32-at-requires : tie.Need-u32-at-requires
 u32-at-requires c κs = search needs
 
 returns : tie.Need-returns
-returns c = cc
+returns c =
+    let d = c .before in
+    rw (c .u32-at .ensures, d .u16-at4 .ensures, d .before .u16-at3 .ensures, d .before .before .u16-at2 .ensures, d .before .before .before .u16-at .ensures)
 
 pub trailer-of-spec : {M : Type 1} → statement M
 trailer-of-spec =

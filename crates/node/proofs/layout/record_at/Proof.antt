@@ -46,7 +46,16 @@ u32-at-requires : tie.Need-u32-at-requires
 u32-at-requires c κs = search needs
 
 returns : tie.Need-returns
-returns c = rw (toZ-ofZ w32 _ (record { sfits = c .before .i32-at .ok })) cc
+returns c =
+    let k = c .before in
+    rw (
+      toZ-ofZ w32 _ (record { sfits = k .i32-at .ok }),
+      c .u32-at .ensures,
+      k .i32-at .ensures,
+      k .before .u16-at3 .ensures,
+      k .before .before .u16-at2 .ensures,
+      k .before .before .before .u16-at .ensures,
+    )
 
 pub record-at-spec : {M : Type 1} → statement M
 record-at-spec =

@@ -53,7 +53,8 @@ u32-at-requires-2 : tie.Need-u32-at-requires-2
 u32-at-requires-2 c κs = search needs
 
 returns : tie.Need-returns
-returns c = cc
+returns c =
+    rw (c .u32-at2 .ensures, c .before .u32-at .ensures, c .before .before .u16-at2 .ensures, c .before .before .before .u16-at .ensures)
 
 pub trailer-of-spec : {M : Type 1} → statement M
 trailer-of-spec =

@@ -28,7 +28,10 @@ is-placed-requires-3 c κs = search needs
 
 returns : tie.Need-returns
 unfolding operandsOk
-returns c = cc
+returns c =
+    let b = c .before .before in
+    let a = b .before .before in
+    rw (c .is-placed3 .ensures, b .is-placed2 .ensures, a .is-placed .ensures, a .before .before .row-of .ensures)
 
 pub operands-ok-spec : {M : Type 1} → statement M
 operands-ok-spec =

@@ -40,7 +40,20 @@ has-type-requires-4 c κs = search needs
 
 returns : tie.Need-returns
 unfolding typesOk
-returns c = cc
+returns c =
+    let b = c .before .before .before in
+    let a = b .before .before .before in
+    let own = a .before .before .before in
+    rw (
+      c .has-type4 .ensures,
+      c .before .type-among3 .ensures,
+      b .has-type3 .ensures,
+      b .before .type-among2 .ensures,
+      a .has-type2 .ensures,
+      a .before .type-among .ensures,
+      own .has-type .ensures,
+      own .before .row-of .ensures,
+    )
 
 pub types-ok-spec : {M : Type 1} → statement M
 types-ok-spec =
