@@ -1,9 +1,9 @@
 // One literal of an arithmetic line: its constraint, times its multiplier.
-use clauses::Literal;
 use constraints::constraint_head;
 use constraints::literal_at;
 use constraints::multiplier_at;
 use constraints::term_at;
+use literals::Literal;
 ghost use Prim.Native.Nat.{ℕ, _+_, _<_, _≤_};
 ghost use mathlib.Core.Path.{_≡_};
 ghost use lib.IntN.{pos, natAbs, _*ℤ_};

@@ -1,8 +1,8 @@
 // Rule 19: joins.
 use crate::search::covers;
 use crate::search::stands_in;
-use clauses::Literal;
 use constraints::line_head;
+use literals::Literal;
 ghost use Prim.Native.Nat.{_+_, _*_, _<_, _≤_};
 ghost use mathlib.Core.Path.{_≡_};
 ghost use lib.ListN.{length};

@@ -1,10 +1,10 @@
 // Rule 16: the shape of a line.
-use clauses::Literal;
 use constraints::LineHead;
 use constraints::line_head;
 use constraints::literal_at;
 use constraints::multiplier_at;
 use constraints::sort_at;
+use literals::Literal;
 ghost use Prim.Native.Nat.{_+_, _<_, _≤_};
 ghost use mathlib.Core.Path.{_≡_};
 ghost use lib.ListN.{length};

@@ -1,12 +1,10 @@
-// Literals, and the clauses of each operator: what an equation line may say.
+// The clauses of each operator: what an equation line may say.
 mod content;
 mod lists;
-mod literal;
 mod matching;
 mod operators;
 mod window;
 
 pub use content::same_content;
-pub use literal::Literal;
 pub use matching::matches;
 pub use window::clause_of;

@@ -1,6 +1,6 @@
 // A literal of a line against one of a clause.
 use crate::content::same_content;
-use crate::literal::Literal;
+use literals::Literal;
 use rules::Linear;
 use rules::Pattern;
 ghost use Prim.Native.Nat.{_+_, _*_};

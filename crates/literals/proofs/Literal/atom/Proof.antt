@@ -1,9 +1,9 @@
--- `clauses::Literal::atom` meets its contract: half of the literal, rounded down.
+-- `literals::Literal::atom` meets its contract: half of the literal, rounded down.
 -- Assumes nothing.
 use mathlib.Core.Path.{refl}
 use borrow.Author.Needs.{needs}
-use Rattle.clauses.proofs.literal.Literal.atom.Statement.{statement}
-use Rattle.clauses.proofs.literal.Literal.atom.Tie as tie
+use Rattle.literals.proofs.Literal.atom.Statement.{statement}
+use Rattle.literals.proofs.Literal.atom.Tie as tie
 
 cast-result : tie.Need-cast-result
 cast-result c = search needs

@@ -1,9 +1,9 @@
--- `clauses::Literal::opposite` meets its contract: one less where the sign is set, else one more.
+-- `literals::Literal::opposite` meets its contract: one less where the sign is set, else one more.
 -- Assumes nothing.
 use borrow.Author.Tests.{eq-eqb, ne-eqb}
 use borrow.Author.Needs.{needs}
-use Rattle.clauses.proofs.literal.Literal.opposite.Statement.{statement}
-use Rattle.clauses.proofs.literal.Literal.opposite.Tie as tie
+use Rattle.literals.proofs.Literal.opposite.Statement.{statement}
+use Rattle.literals.proofs.Literal.opposite.Tie as tie
 
 sub-t6 : tie.Need-sub-t6
 sub-t6 c = search needs
