@@ -1,5 +1,6 @@
 pub mod Entries
 pub mod Every
+pub mod FromTheFront
 pub mod InARow
 pub mod Lowest
 pub mod Numbers

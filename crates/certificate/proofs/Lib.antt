@@ -4,5 +4,4 @@ pub mod Openings
 pub mod PartFacts
 pub mod Settings
 pub mod SlotHalves
-pub mod SortList
 pub mod Standing

@@ -7,6 +7,13 @@ use files::read_file;
 use session::Session;
 use session::begun;
 use session::work;
+ghost use mathlib.Core.Path.{_≡_};
+ghost use lib.ListN.{length};
+ghost use Rattle.session.specs.Instants.{sessionOf, sliceOf};
+ghost use Rattle.session.specs.Lists.{after};
+ghost use Rattle.session.specs.Records.{begunOf};
+ghost use Rattle.run_passes.specs.Pass.{callOf};
+ghost use Rattle.run_passes.specs.Zeroed.{zeroed};
 
 mod pass;
 mod say;
@@ -14,7 +21,10 @@ mod say;
 // What the slice holds before each call.
 const MARK: i64 = 7;
 
-fn begun_on(file: &[u8]) -> Session {
+// The session after a beginning from a zeroed record.
+fn begun_on(file: &[u8]) -> Session
+    ensures { λ r. ⌜ r ≡ begunOf (now (file .entry)) zeroed ⌝ }
+{
     let record = Session {
         file: [0u8; 1040],
         length: 0,
@@ -65,7 +75,10 @@ fn say_answer(answer: InstantVerdict, slice: &[i64]) {
 }
 
 // The session after a call.
-fn stepped(s: Session, inputs: &[i64], slice: &mut [i64]) -> Session {
+fn stepped(s: Session, inputs: &[i64], slice: &mut [i64]) -> Session
+    ensures { λ r. ⌜ (r ≡ sessionOf s (now (inputs .entry)) (length (now (slice .entry))))
+        × (now (slice .exit) ≡ sliceOf s (now (inputs .entry)) (now (slice .entry))) ⌝ }
+{
     let t = work(s, inputs, slice);
     let answer = t.answer;
     say_answer(answer, slice);
@@ -73,7 +86,9 @@ fn stepped(s: Session, inputs: &[i64], slice: &mut [i64]) -> Session {
 }
 
 // The session after a call of a pass.
-fn called(s: Session, call: &[u8]) -> Session {
+fn called(s: Session, call: &[u8]) -> Session
+    ensures { λ r. ⌜ r ≡ after s (callOf (now (call .entry))) ⌝ }
+{
     let inputs = pass::numbers(call);
     let count = pass::input_count(call);
     let mut slice = [MARK; 65];

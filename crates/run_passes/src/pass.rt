@@ -4,11 +4,12 @@
 use fields::i64_at;
 use fields::u16_at;
 ghost use Prim.Native.Nat.{_≤_};
-ghost use lib.ListN.{length};
+ghost use mathlib.Core.Path.{_≡_};
+ghost use Rattle.run_passes.specs.Pass.{firstSize, countAt, inputsFrom};
 
 // How many bytes the first call of a list has; 0 where no whole call is there.
 pub fn first_size(calls: &[u8]) -> usize
-    ensures { λ r. ⌜ r ≤ length (now (calls .entry)) ⌝ }
+    ensures { λ r. ⌜ r ≡ firstSize (now (calls .entry)) ⌝ }
 {
     if calls.len() < 4 {
         return 0;
@@ -19,7 +20,7 @@ pub fn first_size(calls: &[u8]) -> usize
 
 fn count_at(call: &[u8], at: usize) -> usize
     requires { ⌜ at ≤ 2 ⌝ }
-    ensures { λ r. ⌜ r ≤ 65 ⌝ }
+    ensures { λ r. ⌜ r ≡ countAt (now (call .entry)) at ⌝ }
 {
     if call.len() < 4 {
         return 0;
@@ -29,19 +30,21 @@ fn count_at(call: &[u8], at: usize) -> usize
 }
 
 pub fn input_count(call: &[u8]) -> usize
-    ensures { λ r. ⌜ r ≤ 65 ⌝ }
+    ensures { λ r. ⌜ r ≡ countAt (now (call .entry)) 0 ⌝ }
 {
     count_at(call, 0)
 }
 
 pub fn slice_length(call: &[u8]) -> usize
-    ensures { λ r. ⌜ r ≤ 65 ⌝ }
+    ensures { λ r. ⌜ r ≡ countAt (now (call .entry)) 2 ⌝ }
 {
     count_at(call, 2)
 }
 
 // The first inputs that the call has, at most 65, and zeros after them.
-pub fn numbers(call: &[u8]) -> [i64; 65] {
+pub fn numbers(call: &[u8]) -> [i64; 65]
+    ensures { λ r. ⌜ r ≡ inputsFrom (now (call .entry)) 0 65 ⌝ }
+{
     let mut inputs = [0i64; 65];
     let mut i = 0;
     while i < 65 {

@@ -5,6 +5,7 @@ use lib.ListN.{length}
 use mathlib.Core.Path.{sym}
 use native.Mathlib.Omega.{arith}
 use lib.Seq.{length-take-le}
+use Rattle.run_passes.proofs.Calls.{size-within}
 use borrow.Author.Needs.{needs}
 use Rattle.run_passes.proofs.run.Statement.{statement}
 use Rattle.run_passes.proofs.run.Tie as tie
@@ -19,7 +20,7 @@ first-size-requires : tie.Need-first-size-requires Inv-loop μ-loop
 first-size-requires c κs = search needs
 
 loop-holds : tie.Need-loop-holds Inv-loop μ-loop
-loop-holds c = search needs
+loop-holds c = rw (c .first-size .ensures) (size-within _)
 
 slice-aggregate-called : tie.Need-slice-aggregate-called Inv-loop μ-loop
 slice-aggregate-called c = sym (length-take-le _ _ (omega arith))
@@ -43,7 +44,7 @@ loop-less : tie.Need-loop-less Inv-loop μ-loop
 loop-less c = search needs
 
 loop-again : tie.Need-loop-again Inv-loop μ-loop
-loop-again c = search needs
+loop-again c = rw (c .first-size2 .ensures) (size-within _)
 
 returns : tie.Need-returns Inv-loop μ-loop
 returns c = search needs

@@ -6,9 +6,10 @@ use native.Mathlib.Omega.{arith}
 use borrow.Author.Needs.{needs}
 use denote.Ref.{now}
 use lib.ListN.{length, getD, length-set}
+use Rattle.answers.proofs.FromTheFront.{none-set, one-more-set}
+use Rattle.node.specs.Equations.{kindAt}
 use Rattle.node.proofs.Records.{kind-among}
 use Rattle.rules.specs.Sorts.{sortOf, sortsBelow}
-use Rattle.certificate.proofs.SortList.{sorts-start, sorts-turn}
 use Rattle.certificate.proofs.sorts.sorts_of.Statement.{statement}
 use Rattle.certificate.proofs.sorts.sorts_of.Tie as tie
 
@@ -20,7 +21,7 @@ abbrev μ-loop : tie.MeasureT-loop
 μ-loop file n sorts₀ i₀ sorts i = n - i
 
 loop-holds : tie.Need-loop-holds Inv-loop μ-loop
-loop-holds c = (search needs, refl, sorts-start _)
+loop-holds c = (search needs, refl, none-set _ 2 64)
 
 kind-among-requires : tie.Need-kind-among-requires Inv-loop μ-loop
 kind-among-requires c κs = search needs
@@ -44,7 +45,7 @@ loop-again c =
     let within : at .loop .i < length (at .loop .sorts) = omega (arith, c .before .before .loop-test .taken, inv .1, at .before .before .pre .0) in (
       search needs,
       simp length-set (inv .1),
-      sorts-turn (now (at .before .before .args .file)) (at .loop .sorts) (at .loop .i) (c .sort-of .result) within (c .sort-of .ensures ∙ ap sortOf (c .before .kind-among .ensures ∙ kind-among _ _ (at .before .before .pre .1) _)) (inv .2),
+      one-more-set (λ (x : ℕ). sortOf (kindAt (now (at .before .before .args .file)) x)) 2 (at .loop .sorts) (at .loop .i) (c .sort-of .result) within (c .sort-of .ensures ∙ ap sortOf (c .before .kind-among .ensures ∙ kind-among _ _ (at .before .before .pre .1) _)) (inv .2),
     )
 
 returns : tie.Need-returns Inv-loop μ-loop

@@ -1,0 +1,39 @@
+-- A pass file, this repository's own format: a list of calls, each a u16 count of inputs, a u16 length of the slice and the inputs,
+-- signed and of 64 bits; all little-endian.
+use Prim.Native.Nat.{ℕ, zero, suc, _+_, _*_}
+use mathlib.Core.Bool.{cond}
+use mathlib.Core.List.{List, [], _∷_}
+use lib.Dec.{ltb}
+use lib.IntN.{ℤ, pos}
+use lib.ListN.{length, replicate}
+use Rattle.fields.specs.Fields.{u16At, i64At}
+use Rattle.session.specs.Lists.{Call}
+
+-- how many bytes a call has, by its count
+abbrev pub sizeOf : List ℕ → ℕ
+sizeOf calls = 4 + 8 * u16At calls 0
+
+-- how many bytes the first call of a list has; 0 where no whole call is there
+unfoldable pub firstSize : List ℕ → ℕ
+firstSize calls = cond (ltb (length calls) 4) 0 (cond (ltb (length calls) (sizeOf calls)) 0 (sizeOf calls))
+
+-- a number over 65, which is one more than any node has, is made 65
+abbrev pub atMost65 : ℕ → ℕ
+atMost65 n = cond (ltb n 65) n 65
+
+-- the count of inputs, at offset 0 of a call, and the length of its slice, at 2
+unfoldable pub countAt : List ℕ → (at : ℕ) → ℕ
+countAt call at = cond (ltb (length call) 4) 0 (atMost65 (u16At call at))
+
+-- input i; 0 where the call has none
+unfoldable pub inputAt : List ℕ → (i : ℕ) → ℤ
+inputAt call i = cond (ltb (length call) (12 + 8 * i)) (pos 0) (i64At call (4 + 8 * i))
+
+-- n inputs from input i on
+unfoldable pub inputsFrom : List ℕ → (i n : ℕ) → List ℤ
+inputsFrom call i zero = []
+inputsFrom call i (suc n) = inputAt call i ∷ inputsFrom call (suc i) n
+
+-- the call that is made: the inputs that it counts, and a slice of sevens
+abbrev pub callOf : List ℕ → Call
+callOf call = record { inputs = inputsFrom call 0 (countAt call 0); slice = replicate (countAt call 2) (pos 7) }
