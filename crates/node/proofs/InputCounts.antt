@@ -2,13 +2,13 @@
 -- Assumes nothing.
 use mathlib.Core.Path.{_≡_, refl, ap, subst}
 use mathlib.Core.Logic.{⊎-elim}
-use mathlib.Core.Bool.{Bool, true, false, cond, not, _&&_}
+use mathlib.Core.Bool.{Bool, true, false, cond, not, _&&_, and-true}
 use mathlib.Core.List.{List}
 use Prim.Native.Nat.{ℕ, zero, suc, _+_, _<_, _≤_, _^_, zero-le}
 use native.Mathlib.Nat.{not-suc-le-zero, eq-or-lt-of-le, le-of-suc-le-suc}
 use native.Mathlib.Numerals.{add-one}
 use native.Mathlib.Omega.{arith}
-use borrow.Author.Tests.{eqb-true, eq-eqb, ne-eqb, not-false}
+use borrow.Author.Tests.{eqb-true, eq-eqb, ne-eqb, lt-ltb, not-false}
 use lib.Dec.{eqb}
 use lib.ListN.{length}
 use Rattle.answers.specs.declared.Found.the-variants.{At}
@@ -17,8 +17,8 @@ use Rattle.answers.proofs.Tests.{both-true}
 use Rattle.node.specs.declared.equation.Equation.the-variants.{Input}
 use Rattle.node.specs.Equations.{decoded, equationAt}
 use Rattle.node.specs.Layout.{recordsOf, recordOf}
-use Rattle.node.specs.Inputs.{isInput, withRecord, inputsBelow, isInputNumber, inputRecord}
-use Rattle.node.proofs.Records.{records-few}
+use Rattle.node.specs.Inputs.{isInput, withRecordAmong, inputsBelow, isInputNumber, inputRecord}
+use Rattle.node.proofs.Records.{records-few, is-input-among}
 
 module _ (s : List ℕ) where
   pub inputs-le : (i : ℕ) → inputsBelow s i ≤ i
@@ -30,9 +30,9 @@ module _ (s : List ℕ) where
       go true l = omega arith
       go false l = omega arith
 
-  pub inputs-more : (i inputs : ℕ) → inputs ≡ inputsBelow s i → withRecord s i inputs ≡ inputsBelow s (i + 1)
+  pub inputs-more : (n i inputs : ℕ) → n ≡ recordsOf s → inputs < 2 ^ 63 → inputs ≡ inputsBelow s i → withRecordAmong s n i inputs ≡ inputsBelow s (i + 1)
   unfolding inputsBelow
-  inputs-more i inputs e = rw (add-one, e)
+  inputs-more n i inputs e l f = rw (is-input-among s n e i, lt-ltb inputs (2 ^ 63) l, and-true (isInput s i), add-one, f)
 
   -- far fewer than a number can count, while a record is left
   pub inputs-few : (n i inputs : ℕ) → n ≡ recordsOf s → i < n → inputs ≡ inputsBelow s i → length s < 2 ^ 64 → inputs < 2 ^ 63

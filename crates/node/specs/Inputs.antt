@@ -1,8 +1,8 @@
 -- The inputs of a node: "one signed 64-bit number an input, in record order".
-use Prim.Native.Nat.{ℕ, zero, suc}
+use Prim.Native.Nat.{ℕ, zero, suc, _^_}
 use mathlib.Core.List.{List}
 use mathlib.Core.Bool.{Bool, not, cond, _&&_}
-use lib.Dec.{eqb}
+use lib.Dec.{eqb, ltb}
 use Rattle.answers.specs.declared.Found.{Found}
 use Rattle.answers.specs.Checks.{lowest}
 use Rattle.node.specs.Layout.{recordOf, recordsOf, recordAmong}
@@ -22,6 +22,10 @@ withRecord s i inputs = cond (isInput s i) (suc inputs) inputs
 unfoldable pub inputsBelow : List ℕ → (i : ℕ) → ℕ
 inputsBelow s zero = 0
 inputsBelow s (suc i) = withRecord s i (inputsBelow s i)
+
+-- the same with record i of n, for any count: one of 2^63, which no node has, stays as it is
+abbrev pub withRecordAmong : List ℕ → (n i inputs : ℕ) → ℕ
+withRecordAmong s n i inputs = cond (isInputAmong s n i && ltb inputs (2 ^ 63)) (suc inputs) inputs
 
 -- how many inputs there are
 abbrev pub inputCount : List ℕ → ℕ

@@ -2,10 +2,8 @@
 use crate::layout::record_among;
 use crate::layout::records_of;
 use answers::Found;
-ghost use Prim.Native.Nat.{_<_, _^_};
 ghost use mathlib.Core.Path.{_≡_};
-ghost use Rattle.node.specs.Layout.{recordsOf};
-ghost use Rattle.node.specs.Inputs.{isInput, isInputAmong, withRecord, inputCount, inputRecord};
+ghost use Rattle.node.specs.Inputs.{isInput, isInputAmong, withRecordAmong, inputCount, inputRecord};
 
 // Record i of n is an input.
 pub fn is_input_among(file: &[u8], n: usize, i: usize) -> bool
@@ -22,13 +20,11 @@ pub fn is_input(file: &[u8], i: usize) -> bool
     is_input_among(file, records_of(file), i)
 }
 
-// The inputs counted so far, with record i of a file of n.
-fn with_record(file: &[u8], n: usize, i: usize, inputs: usize) -> usize
-    requires { ⌜ n ≡ recordsOf (now file) ⌝ }
-    requires { ⌜ inputs < 2 ^ 63 ⌝ }
-    ensures { λ r. ⌜ r ≡ withRecord (now (file .entry)) i inputs ⌝ }
+// The inputs counted so far, with record i of n. A count that no node reaches stays, so that none overflows.
+pub fn with_record(file: &[u8], n: usize, i: usize, inputs: usize) -> usize
+    ensures { λ r. ⌜ r ≡ withRecordAmong (now (file .entry)) n i inputs ⌝ }
 {
-    if is_input_among(file, n, i) {
+    if is_input_among(file, n, i) & (inputs < 9223372036854775808) {
         inputs + 1
     } else {
         inputs

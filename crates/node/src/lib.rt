@@ -20,4 +20,5 @@ pub use inputs::input_count;
 pub use inputs::input_record;
 pub use inputs::is_input;
 pub use inputs::is_input_among;
+pub use inputs::with_record;
 pub use reading::verdict;

@@ -4,14 +4,15 @@ use crate::numbers::number_at;
 use answers::Found;
 use node::is_input_among;
 use node::kind_among;
-ghost use Prim.Native.Nat.{_<_, _≤_, _^_};
+use node::with_record;
+ghost use Prim.Native.Nat.{_≤_};
 ghost use mathlib.Core.Path.{_≡_};
 ghost use mathlib.Core.Bool.{not, _||_};
 ghost use lib.IntN.{pos};
 ghost use lib.ListN.{getD};
 ghost use Rattle.answers.specs.Checks.{lowest};
 ghost use Rattle.node.specs.Equations.{kindAt};
-ghost use Rattle.node.specs.Inputs.{isInput, withRecord};
+ghost use Rattle.node.specs.Inputs.{isInput};
 ghost use Rattle.node.specs.Layout.{recordsOf};
 ghost use Rattle.streams.specs.Typing.{fitsTest};
 ghost use Rattle.session.specs.Instants.{inputFits};
@@ -22,19 +23,6 @@ fn input_fits(file: &[u8], n: usize, inputs: &[i64], i: usize, j: usize) -> bool
     ensures { λ r. ⌜ r ≡ (not (isInput (now (file .entry)) i) || fitsTest (kindAt (now (file .entry)) i) (getD (now (inputs .entry)) j (pos 0))) ⌝ }
 {
     !is_input_among(file, n, i) | is_typed(kind_among(file, n, i), number_at(inputs, j))
-}
-
-// The inputs counted so far, with record i of a file of n.
-pub fn with_record(file: &[u8], n: usize, i: usize, inputs: usize) -> usize
-    requires { ⌜ n ≡ recordsOf (now file) ⌝ }
-    requires { ⌜ inputs < 2 ^ 63 ⌝ }
-    ensures { λ r. ⌜ r ≡ withRecord (now (file .entry)) i inputs ⌝ }
-{
-    if is_input_among(file, n, i) {
-        inputs + 1
-    } else {
-        inputs
-    }
 }
 
 // The lowest record whose input does not fit its type. The inputs below it are counted along the way.

@@ -1,9 +1,9 @@
 // The values of all streams at one instant.
-use crate::inputs::with_record;
 use crate::numbers::number_at;
 use answers::Found;
 use integers::Checked;
 use node::equation_among;
+use node::with_record;
 use streams::value;
 ghost use Prim.Native.Nat.{_≤_};
 ghost use mathlib.Core.Path.{_≡_};

@@ -24,9 +24,7 @@ unfolding inputsBelow
 loop-holds c = (c .records-of .ensures, search needs, refl)
 
 with-record-requires : tie.Need-with-record-requires Inv-loop μ-loop
-with-record-requires c κs =
-    let inv = c .before .loop .inv in
-    (inv .0, inputs-few _ _ _ _ (inv .0) (c .loop-test .taken) (inv .2) (c .before .before .before .before .good .0 .0))
+with-record-requires c κs = search needs
 
 add-i : tie.Need-add-i Inv-loop μ-loop
 add-i c = search needs
@@ -36,8 +34,10 @@ loop-less c = search needs
 
 loop-again : tie.Need-loop-again Inv-loop μ-loop
 loop-again c =
-    let inv = c .before .before .loop .inv in
-    (inv .0, search needs, c .with-record .ensures ∙ inputs-more _ _ _ (inv .2))
+    let at = c .before .before in
+    let inv = at .loop .inv in
+    let few = inputs-few _ _ _ _ (inv .0) (c .before .loop-test .taken) (inv .2) (at .before .before .before .good .0 .0) in
+    (inv .0, search needs, c .with-record .ensures ∙ inputs-more _ _ _ _ (inv .0) few (inv .2))
 
 returns : tie.Need-returns Inv-loop μ-loop
 returns c =

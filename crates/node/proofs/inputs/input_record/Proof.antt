@@ -47,9 +47,7 @@ returns c =
     sym (found _ _ _ (rw (l .0) at (c .before .before .loop-test .taken)) (l .3) (ap not (number-is (c .before) ∙ c .if1 .taken)))
 
 with-record-requires : tie.Need-with-record-requires Inv-loop μ-loop
-with-record-requires c κs =
-    let inv = c .before .before .before .loop .inv in
-    (inv .0, inputs-few _ _ _ _ (inv .0) (c .before .before .loop-test .taken) (inv .2) (c .before .before .before .before .before .before .good .0 .0))
+with-record-requires c κs = search needs
 
 add-i : tie.Need-add-i Inv-loop μ-loop
 add-i c = search needs
@@ -59,10 +57,12 @@ loop-less c = search needs
 
 loop-again : tie.Need-loop-again Inv-loop μ-loop
 loop-again c =
-    let inv = c .before .before .before .before .loop .inv in (
+    let at = c .before .before .before .before in
+    let inv = at .loop .inv in
+    let few = inputs-few _ _ _ _ (inv .0) (c .before .before .before .loop-test .taken) (inv .2) (at .before .before .before .good .0 .0) in (
       inv .0,
       search needs,
-      c .with-record .ensures ∙ inputs-more _ _ _ (inv .2),
+      c .with-record .ensures ∙ inputs-more _ _ _ _ (inv .0) few (inv .2),
       below-more _ _ (inv .3) (ap not (number-is (c .before .before) ∙ c .before .if1 .left)),
     )
 

@@ -2,7 +2,7 @@
 -- Assumes nothing.
 use mathlib.Core.Path.{_≡_, refl, sym, _∙_}
 use mathlib.Core.Bool.{true}
-use Prim.Native.Nat.{ℕ, _-_, _<_, _≤_}
+use Prim.Native.Nat.{ℕ, _-_, _<_, _≤_, _^_}
 use native.Mathlib.Omega.{arith}
 use borrow.Author.Count.{below-none, below-more}
 use borrow.Author.Tests.{not-true, not-false}
@@ -39,10 +39,7 @@ returns c =
     sym (found _ _ _ (c .before .before .loop-test .taken) (inv .2) (fits-is (c .before) ∙ not-true _ (c .if1 .taken)))
 
 with-record-requires : tie.Need-with-record-requires Inv-loop μ-loop
-with-record-requires c κs =
-    let at = c .before .before .before in
-    let s = at .before .before in
-    (s .pre .0, omega (arith, inputs-le (now (s .args .file)) (at .loop .i), at .loop .inv .1, s .pre .1))
+with-record-requires c κs = search needs
 
 add-i : tie.Need-add-i Inv-loop μ-loop
 add-i c = search needs
@@ -52,9 +49,12 @@ loop-less c = search needs
 
 loop-again : tie.Need-loop-again Inv-loop μ-loop
 loop-again c =
-    let inv = c .before .before .before .before .loop .inv in (
+    let at = c .before .before .before .before in
+    let s = at .before .before in
+    let inv = at .loop .inv in
+    let few : at .loop .j < 2 ^ 63 = omega (arith, inputs-le (now (s .args .file)) (at .loop .i), inv .1, inv .0, s .pre .1) in (
       search needs,
-      c .with-record .ensures ∙ inputs-more _ _ _ (inv .1),
+      c .with-record .ensures ∙ inputs-more _ _ _ _ (s .pre .0) few (inv .1),
       below-more _ _ (inv .2) (fits-is (c .before .before) ∙ not-false _ (c .before .if1 .left)),
     )
 

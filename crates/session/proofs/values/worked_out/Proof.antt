@@ -2,7 +2,7 @@
 -- 64 signed bits do not hold; where there is none the array holds their values; and the inputs among them are counted.
 -- Assumes nothing.
 use mathlib.Core.Path.{_≡_, refl, sym, _∙_, ap, subst}
-use Prim.Native.Nat.{_-_, _<_, _≤_}
+use Prim.Native.Nat.{_-_, _<_, _≤_, _^_}
 use native.Mathlib.Omega.{arith}
 use denote.Ref.{now}
 use lib.ListN.{length, length-set}
@@ -59,10 +59,7 @@ array-set-from-values : tie.Need-array-set-from-values Inv-loop μ-loop
 array-set-from-values c = search needs
 
 with-record-requires : tie.Need-with-record-requires Inv-loop μ-loop
-with-record-requires c κs =
-    let at = c .before .before .before .before .before .before in
-    let s = at .before .before in
-    (s .pre .0, omega (arith, inputs-le (now (s .args .file)) (at .loop .i), at .loop .inv .2, s .pre .2))
+with-record-requires c κs = search needs
 
 add-i : tie.Need-add-i Inv-loop μ-loop
 add-i c = search needs
@@ -79,13 +76,14 @@ loop-again c =
     let inv = at .loop .inv in
     let l : at .loop .i < streamsOf (now (a .file)) = omega (arith, s .pre .1, s .pre .2) in
     let few : streamsOf (now (a .file)) ≤ 64 = omega (arith, s .pre .1, s .pre .2) in
+    let counted : at .loop .j < 2 ^ 63 = omega (arith, inputs-le (now (a .file)) (at .loop .i), inv .2, s .pre .2) in
     let made = or-at .before .before .value-of .ensures in
     let found-is = or-at .or-at .ensures ∙ ap (λ ok. orAt (at .loop .outside) ok (at .loop .i)) (or-at .before .is-inside .ensures ∙ ap isValue made) in
     let number-is = c .before .number-of .ensures ∙ ap numberIn made in
     let f : SFits w64 (c .before .number-of .result) = search needs in (
       search needs,
       simp length-set (inv .1),
-      c .with-record .ensures ∙ inputs-more _ _ _ (inv .2),
+      c .with-record .ensures ∙ inputs-more _ _ _ _ (s .pre .0) counted (inv .2),
       found-is
           ∙ turn-found (now (a .file)) (now (a .inputs)) (a .first) (now (a .past)) (at .loop .values) (at .loop .i) (at .loop .j) l (inv .2) (at .loop .outside) (inv .3) (inv .4),
       λ e.
