@@ -25,6 +25,7 @@ fn is_join(file: &[u8], p: usize, q: usize, r: u16, at: usize) -> bool
     if !(stands_in(file, p, in_p, r) & stands_in(file, q, in_q, s)) {
         return false;
     }
+    // All of p but r.
     let left = in_p - 1;
     covers(file, p, in_p, r, at, here, 0) & covers(file, q, in_q, s, at, here, left)
 }

@@ -37,8 +37,8 @@ fn stands_from(file: &[u8], at: usize, count: usize, l: u16, fours: usize) -> bo
     stands_from(file, at, count, l, fours + 1)
 }
 
-// Literal l stands in the line at an offset, which lists count. Most lines list few: the search is asked for what is left past the
-// first four.
+// Literal l stands in the line at an offset, which lists count. Most lines list few: the search that calls itself is asked past the
+// first four only.
 pub fn stands_in(file: &[u8], at: usize, count: usize, l: u16) -> bool
     requires { ⌜ (at + 80 ≤ length (now file)) × (count ≤ 12) ⌝ }
     ensures { λ r. ⌜ r ≡ standsFrom (literalAt (now (file .entry)) at) l 0 count ⌝ }

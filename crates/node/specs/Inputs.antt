@@ -23,7 +23,7 @@ unfoldable pub inputsBelow : List ℕ → (i : ℕ) → ℕ
 inputsBelow s zero = 0
 inputsBelow s (suc i) = withRecord s i (inputsBelow s i)
 
--- the same with record i of n, for any count: one of 2^63, which no node has, stays as it is
+-- the same with record i of n, for any count: one of 2^63 or more, which no node has, stays as it is
 abbrev pub withRecordAmong : List ℕ → (n i inputs : ℕ) → ℕ
 withRecordAmong s n i inputs = cond (isInputAmong s n i && ltb inputs (2 ^ 63)) (suc inputs) inputs
 
