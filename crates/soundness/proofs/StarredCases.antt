@@ -30,7 +30,7 @@ use Rattle.streams.specs.Values.{equals, truth, valuesIn}
 use Rattle.session.specs.Instants.{inputFits, workedOut, valueFits, answerOf, sliceOf}
 use Rattle.session.specs.Lists.{Call}
 use Rattle.session.specs.Records.{begun, holdsNode}
-use Rattle.session.proofs.CallAnswers.{accepted-right}
+use Rattle.session.proofs.CallAnswers.{answered-typed}
 use Rattle.session.proofs.JustBegun.{begun-stands}
 use Rattle.session.proofs.Standing.{worked-out-is}
 use Rattle.soundness.specs.Files.{rec, nodeFile, noughts, minusOne, atMost, line, certificateFile}
@@ -56,9 +56,8 @@ answers-by c known =
       node = known .node;
       is-accepted = known .is-accepted;
       typed =
-          accepted-right file (known .is-accepted) [] s stands own
-          (ap (answerOf s (c .inputs)) (length-replicate n (pos 0)) ∙ known .answered)
-          .typed;
+          answered-typed file (known .is-accepted) own [] s stands
+          (ap (answerOf s (c .inputs)) (length-replicate n (pos 0)) ∙ known .answered);
       answered = known .answered;
       left = λ slice long.
           ap (λ (a : Answer (Unit {0})). ifAccepted a (workedOut s (c .inputs)) slice) (ap (answerOf s (c .inputs)) long ∙ known .answered)
