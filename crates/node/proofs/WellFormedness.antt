@@ -79,7 +79,7 @@ shape-operator r e =
     let second = both-true (leb (r .op) 13 && leb (r .kind) 1) limit (first .0) in
     omega (arith, leb-true (r .op) 13 (both-true (leb (r .op) 13) (leb (r .kind) 1) (second .0) .0))
 
-shape-constant : (r : Record) → shapeOk r ≡ true → constantOk (rowOf (r .op) .k) (r .kind) (r .k) ≡ true
+pub shape-constant : (r : Record) → shapeOk r ≡ true → constantOk (rowOf (r .op) .k) (r .kind) (r .k) ≡ true
 unfolding shapeOk
 shape-constant r e =
     let limit = constantOk (rowOf (r .op) .k) (r .kind) (r .k) in
