@@ -11,7 +11,7 @@ use Rattle.node.specs.Layout.{streamsOf}
 use Rattle.node.specs.Reads.{All}
 use Rattle.node.specs.Verdict.{verdictOf as nodeVerdict}
 use Rattle.constraints.specs.Linear.{variable}
-use Rattle.rules.specs.Literals.{negative}
+use Rattle.literals.specs.Literals.{negative}
 use Rattle.rules.specs.Verdict.{verdictOf}
 use Rattle.streams.specs.Nodes.{nodeOf}
 use Rattle.streams.specs.Solutions.{Streams, Solution}
