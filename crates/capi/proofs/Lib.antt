@@ -1,4 +1,5 @@
 pub mod Demands
+pub mod ExactSessions
 pub mod Outcomes
 pub mod SameSessions
 pub mod Telling

@@ -11,10 +11,10 @@ use Rattle.answers.specs.Answer.{Answer, accepted, refused, ifAccepted}
 use Rattle.node.specs.Verdict.{verdictOf}
 use Rattle.session.specs.declared.Session.{Session}
 use Rattle.session.specs.Instants.{answerOf, movedOn, sessionOf}
-use Rattle.session.specs.Lists.{Call, Answered, answered}
+use Rattle.session.specs.Lists.{Call, Answered, answered, afterAll}
 use Rattle.session.specs.Records.{begun, begunOf}
 use Rattle.capi.specs.declared.records.SessionRecord.{SessionRecord}
-use Rattle.capi.specs.Lists.{answeredOn}
+use Rattle.capi.specs.Lists.{answeredOn, afterAllOn}
 use Rattle.capi.specs.Records.{asSession, asRecord, recordBegun, answerOn, recordAfter, sliceAfter}
 use Rattle.capi.specs.Theorems.{RecordsAreSessions}
 
@@ -45,5 +45,12 @@ lists r (c ∷ cs) =
     ap (λ (rest : List Answered). own ++ rest)
     (lists (recordAfter r (c .inputs) (length (c .slice))) cs ∙ ap (λ (s : Session). answered s cs) (steps r (c .inputs) (length (c .slice))))
 
+ends : (r : SessionRecord) (calls : List Call) → asSession (afterAllOn r calls) ≡ afterAll (asSession r) calls
+unfolding afterAllOn afterAll
+ends r [] = refl
+ends r (c ∷ cs) =
+    ends (recordAfter r (c .inputs) (length (c .slice))) cs
+    ∙ ap (λ (s : Session). afterAll s cs) (steps r (c .inputs) (length (c .slice)))
+
 pub records-are-sessions : RecordsAreSessions
-records-are-sessions = record { begins = begins; steps = steps; lists = lists }
+records-are-sessions = record { begins = begins; steps = steps; lists = lists; ends = ends }

@@ -59,7 +59,7 @@ module _ {A : Type 0} where
   tested-all (At i) number place rest l n = above A number (place i) l
   tested-all Nothing number place rest l n = n
 
-node-numbered : (file : List ℕ) → Numbered (nodeVerdict file)
+pub node-numbered : (file : List ℕ) → Numbered (nodeVerdict file)
 unfolding nodeVerdict recordsVerdict
 node-numbered file =
     let n = streamsOf file in

@@ -12,3 +12,8 @@ answeredOn r [] = []
 answeredOn r (c ∷ cs) =
     ifAccepted (answerOn r (c .inputs) (length (c .slice))) (record { inputs = c .inputs; values = sliceAfter r (c .inputs) (c .slice) } ∷ []) []
     ++ answeredOn (recordAfter r (c .inputs) (length (c .slice))) cs
+
+-- the record after a list of calls
+unfoldable pub afterAllOn : SessionRecord → List Call → SessionRecord
+afterAllOn r [] = r
+afterAllOn r (c ∷ cs) = afterAllOn (recordAfter r (c .inputs) (length (c .slice))) cs

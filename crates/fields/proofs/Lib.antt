@@ -1,1 +1,2 @@
 pub mod TwosComplement
+pub mod Written

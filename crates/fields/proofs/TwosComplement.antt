@@ -11,12 +11,12 @@ use mir.Val.{hbits, SFits, toZ, ofZ}
 use mir.ValLaws.{toZ-pos, toZ-ofZ}
 use Rattle.fields.specs.Fields.{twosComplement}
 
-low : (half n : ℕ) → n < half → twosComplement half n ≡ pos n
+pub low : (half n : ℕ) → n < half → twosComplement half n ≡ pos n
 unfolding twosComplement
 low half n l = rw (lt-ltb _ _ l)
 
 -- n is m + 1 below the whole range
-high : (half n m : ℕ) → n + suc m ≡ half + half → m < half → twosComplement half n ≡ negsuc m
+pub high : (half n m : ℕ) → n + suc m ≡ half + half → m < half → twosComplement half n ≡ negsuc m
 unfolding twosComplement
 high half n m e l =
     rw (le-ltb n half (omega arith), sym e, add-suc n m, lt-ltb n (suc (n + m)) (omega arith))

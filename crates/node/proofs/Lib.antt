@@ -6,3 +6,4 @@ pub mod Records
 pub mod TableRule
 pub mod WellFormedness
 pub mod WithoutNote
+pub mod Written

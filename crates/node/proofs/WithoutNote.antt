@@ -27,10 +27,10 @@ use Rattle.node.proofs.Notes.{accepted-room, note-is}
 use Rattle.node.proofs.Outcomes.{accepted-keeps, accepted-values, keeps-accepted}
 
 module _ (k : ℕ) (s : List ℕ) where
-  trailer-on : (at : ℕ) → trailerAt (drop k s) at ≡ trailerAt s (k + at)
+  pub trailer-on : (at : ℕ) → trailerAt (drop k s) at ≡ trailerAt s (k + at)
   trailer-on at = simp (getD-drop, ← add-assoc)
 
-  record-on : (at : ℕ) → recordAt (drop k s) at ≡ recordAt s (k + at)
+  pub record-on : (at : ℕ) → recordAt (drop k s) at ≡ recordAt s (k + at)
   record-on at = simp (getD-drop, ← add-assoc)
 
   -- the same trailer, where it is left whole

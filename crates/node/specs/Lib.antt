@@ -7,3 +7,4 @@ pub mod Reads
 pub mod Rules
 pub mod Table
 pub mod Verdict
+pub mod Written

@@ -19,8 +19,8 @@ use Rattle.session.specs.declared.Session.{Session}
 abbrev pub filled : {A : Type 0} → (n : ℕ) → (z : A) → List A → List A
 filled n z l = l ++ replicate (n - length l) z
 
--- "Beginning takes a node file .. and sets the record to its node, before instant 0." What the last values are before instant 0 is
--- free in the paper: they are 0.
+-- "Beginning takes a node file, checked by 1 to 8, and sets the record to its node, before instant 0." What the last values are
+-- before instant 0 is free in the paper: they are 0.
 abbrev pub begun : (file : List ℕ) → Session
 begun file =
     record {
@@ -30,7 +30,7 @@ begun file =
       last = replicate 64 (pos 0);
     }
 
--- the record after a beginning: "checked by 1 to 8"
+-- the record after a beginning
 unfoldable pub begunOf : (file : List ℕ) → (before : Session) → Session
 begunOf file before = ifAccepted (verdictOf file) (begun file) before
 

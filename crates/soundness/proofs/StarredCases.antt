@@ -18,6 +18,7 @@ use Rattle.node.specs.Note.{noteLength}
 use Rattle.node.specs.Rules.{lengthOk, fixedOk, countsOk, distanceOk, unusedOk, shapeOk, operandsOk, typesOk, propertyOk}
 use Rattle.node.specs.Table.{rowOf}
 use Rattle.node.specs.Verdict.{recordsVerdict, verdictOf as nodeVerdict}
+use Rattle.node.specs.Written.{recordBytes, trailerBytes, nodeFile}
 use Rattle.constraints.specs.Linear.{written}
 use Rattle.constraints.specs.Rules.{fixedOk as certFixed, countsOk as certCounts, distanceOk as certDistance, constraintOk, termOk, usedOk, rises, unusedOk as termUnused}
 use Rattle.rules.specs.Literals.{namesAtom}
@@ -30,10 +31,10 @@ use Rattle.streams.specs.Values.{equals, truth, valuesIn}
 use Rattle.session.specs.Instants.{inputFits, workedOut, valueFits, answerOf, sliceOf}
 use Rattle.session.specs.Lists.{Call}
 use Rattle.session.specs.Records.{begun, holdsNode}
-use Rattle.session.proofs.CallAnswers.{accepted-right}
+use Rattle.session.proofs.CallAnswers.{answered-typed}
 use Rattle.session.proofs.JustBegun.{begun-stands}
 use Rattle.session.proofs.Standing.{worked-out-is}
-use Rattle.soundness.specs.Files.{rec, nodeFile, noughts, minusOne, atMost, line, certificateFile}
+use Rattle.soundness.specs.Files.{noughts, minusOne, atMost, line, certificateFile}
 use Rattle.soundness.specs.Starred.{FirstCall, Answers, checks, reads, refuses, twoBands, doubling, ofSize, constantTrue, ofDepth, trueAndInts, opposites, bandsWhole, stepAlone, bothAsked, greatestDoubled, leastDoubled, cases, Holds, Starred}
 
 -- what is computed of a first call: the verdict on its file, the answer and the values
@@ -56,9 +57,8 @@ answers-by c known =
       node = known .node;
       is-accepted = known .is-accepted;
       typed =
-          accepted-right file (known .is-accepted) [] s stands own
-          (ap (answerOf s (c .inputs)) (length-replicate n (pos 0)) ∙ known .answered)
-          .typed;
+          answered-typed file (known .is-accepted) own [] s stands
+          (ap (answerOf s (c .inputs)) (length-replicate n (pos 0)) ∙ known .answered);
       answered = known .answered;
       left = λ slice long.
           ap (λ (a : Answer (Unit {0})). ifAccepted a (workedOut s (c .inputs)) slice) (ap (answerOf s (c .inputs)) long ∙ known .answered)
@@ -69,51 +69,51 @@ answers-by c known =
     }
 
 both-asked : Computed bothAsked
-unfolding twoBands rec nodeFile nodeVerdict recordsVerdict lengthOk fixedOk countsOk distanceOk lowest shapeOk unusedOk operandsOk typesOk propertyOk rowOf recordsOf recordOf twosComplement every kindAt decoded inputsBelow noteLength upTo evaluated instant equals truth inputFits workedOut valueFits answerOf holdsNode inside
+unfolding twoBands nodeFile recordBytes trailerBytes nodeVerdict recordsVerdict lengthOk fixedOk countsOk distanceOk lowest shapeOk unusedOk operandsOk typesOk propertyOk rowOf recordsOf recordOf twosComplement every kindAt decoded inputsBelow noteLength upTo evaluated instant equals truth inputFits workedOut valueFits answerOf holdsNode inside
 both-asked = record { node = record { streams = 6; property = 5 }; is-accepted = refl; answered = refl; values = refl }
 
 greatest-doubled : Computed greatestDoubled
-unfolding doubling rec nodeFile nodeVerdict recordsVerdict lengthOk fixedOk countsOk distanceOk lowest shapeOk unusedOk operandsOk typesOk propertyOk rowOf recordsOf recordOf twosComplement every kindAt decoded inputsBelow noteLength upTo evaluated instant equals truth inputFits workedOut valueFits answerOf holdsNode inside
+unfolding doubling nodeFile recordBytes trailerBytes nodeVerdict recordsVerdict lengthOk fixedOk countsOk distanceOk lowest shapeOk unusedOk operandsOk typesOk propertyOk rowOf recordsOf recordOf twosComplement every kindAt decoded inputsBelow noteLength upTo evaluated instant equals truth inputFits workedOut valueFits answerOf holdsNode inside
 greatest-doubled = record { node = record { streams = 3; property = 2 }; is-accepted = refl; answered = refl; values = refl }
 
 one-more : Holds (refuses doubling (pos 4611686018427387904 ∷ []) 34 (AtRecord 1))
-unfolding doubling rec nodeFile nodeVerdict recordsVerdict lengthOk fixedOk countsOk distanceOk lowest shapeOk unusedOk operandsOk typesOk propertyOk rowOf recordsOf recordOf twosComplement every kindAt decoded inputsBelow noteLength upTo evaluated instant equals truth inputFits workedOut valueFits answerOf holdsNode inside
+unfolding doubling nodeFile recordBytes trailerBytes nodeVerdict recordsVerdict lengthOk fixedOk countsOk distanceOk lowest shapeOk unusedOk operandsOk typesOk propertyOk rowOf recordsOf recordOf twosComplement every kindAt decoded inputsBelow noteLength upTo evaluated instant equals truth inputFits workedOut valueFits answerOf holdsNode inside
 one-more = refl
 
 least-doubled : Computed leastDoubled
-unfolding doubling rec nodeFile nodeVerdict recordsVerdict lengthOk fixedOk countsOk distanceOk lowest shapeOk unusedOk operandsOk typesOk propertyOk rowOf recordsOf recordOf twosComplement every kindAt decoded inputsBelow noteLength upTo evaluated instant equals truth inputFits workedOut valueFits answerOf holdsNode inside
+unfolding doubling nodeFile recordBytes trailerBytes nodeVerdict recordsVerdict lengthOk fixedOk countsOk distanceOk lowest shapeOk unusedOk operandsOk typesOk propertyOk rowOf recordsOf recordOf twosComplement every kindAt decoded inputsBelow noteLength upTo evaluated instant equals truth inputFits workedOut valueFits answerOf holdsNode inside
 least-doubled = record { node = record { streams = 3; property = 2 }; is-accepted = refl; answered = refl; values = refl }
 
 opposites-pass : Holds (checks trueAndInts (opposites (minusOne 8) (noughts 8)) (accepted (record { depth = 1; base = 4; step = 3 })))
-unfolding trueAndInts opposites atMost rec nodeFile nodeVerdict recordsVerdict lengthOk fixedOk countsOk distanceOk lowest shapeOk unusedOk operandsOk typesOk propertyOk rowOf recordsOf recordOf twosComplement line certificateFile certFixed certCounts certDistance verdictOf certificateVerdict constraintsVerdict linesVerdict every shapePasses lineShape slotOk numbersOk namesAtom kindPasses kindOk kindAt decoded equationIn clauseIs basePropertyOk stepPropertyOk standsFrom joins joinOk constraintOk termOk usedOk rises termUnused written sumOf arithmeticOk
+unfolding trueAndInts opposites atMost nodeFile recordBytes trailerBytes nodeVerdict recordsVerdict lengthOk fixedOk countsOk distanceOk lowest shapeOk unusedOk operandsOk typesOk propertyOk rowOf recordsOf recordOf twosComplement line certificateFile certFixed certCounts certDistance verdictOf certificateVerdict constraintsVerdict linesVerdict every shapePasses lineShape slotOk numbersOk namesAtom kindPasses kindOk kindAt decoded equationIn clauseIs basePropertyOk stepPropertyOk standsFrom joins joinOk constraintOk termOk usedOk rises termUnused written sumOf arithmeticOk
 opposites-pass = refl
 
 opposites-fail : Holds (checks trueAndInts (opposites (noughts 8) (noughts 8)) (refused 20 (AtLine 3)))
-unfolding trueAndInts opposites atMost rec nodeFile nodeVerdict recordsVerdict lengthOk fixedOk countsOk distanceOk lowest shapeOk unusedOk operandsOk typesOk propertyOk rowOf recordsOf recordOf twosComplement line certificateFile certFixed certCounts certDistance verdictOf certificateVerdict constraintsVerdict linesVerdict every shapePasses lineShape slotOk numbersOk namesAtom kindPasses kindOk kindAt decoded equationIn clauseIs basePropertyOk stepPropertyOk standsFrom joins joinOk constraintOk termOk usedOk rises termUnused written sumOf arithmeticOk
+unfolding trueAndInts opposites atMost nodeFile recordBytes trailerBytes nodeVerdict recordsVerdict lengthOk fixedOk countsOk distanceOk lowest shapeOk unusedOk operandsOk typesOk propertyOk rowOf recordsOf recordOf twosComplement line certificateFile certFixed certCounts certDistance verdictOf certificateVerdict constraintsVerdict linesVerdict every shapePasses lineShape slotOk numbersOk namesAtom kindPasses kindOk kindAt decoded equationIn clauseIs basePropertyOk stepPropertyOk standsFrom joins joinOk constraintOk termOk usedOk rises termUnused written sumOf arithmeticOk
 opposites-fail = refl
 
 depth-8 : Holds (checks constantTrue (ofDepth 8) (accepted (record { depth = 8; base = 17; step = 3 })))
-unfolding constantTrue ofDepth rec nodeFile nodeVerdict recordsVerdict lengthOk fixedOk countsOk distanceOk lowest shapeOk unusedOk operandsOk typesOk propertyOk rowOf recordsOf recordOf twosComplement line certificateFile certFixed certCounts certDistance verdictOf certificateVerdict constraintsVerdict linesVerdict every shapePasses lineShape slotOk numbersOk namesAtom kindPasses kindOk kindAt decoded equationIn clauseIs basePropertyOk stepPropertyOk standsFrom joins joinOk
+unfolding constantTrue ofDepth nodeFile recordBytes trailerBytes nodeVerdict recordsVerdict lengthOk fixedOk countsOk distanceOk lowest shapeOk unusedOk operandsOk typesOk propertyOk rowOf recordsOf recordOf twosComplement line certificateFile certFixed certCounts certDistance verdictOf certificateVerdict constraintsVerdict linesVerdict every shapePasses lineShape slotOk numbersOk namesAtom kindPasses kindOk kindAt decoded equationIn clauseIs basePropertyOk stepPropertyOk standsFrom joins joinOk
 depth-8 = refl
 
 depth-9 : Holds (checks constantTrue (ofDepth 9) (refused 13 File))
-unfolding constantTrue ofDepth rec nodeFile nodeVerdict recordsVerdict lengthOk fixedOk countsOk distanceOk lowest shapeOk unusedOk operandsOk typesOk propertyOk rowOf recordsOf recordOf twosComplement line certificateFile certFixed certCounts certDistance verdictOf certificateVerdict
+unfolding constantTrue ofDepth nodeFile recordBytes trailerBytes nodeVerdict recordsVerdict lengthOk fixedOk countsOk distanceOk lowest shapeOk unusedOk operandsOk typesOk propertyOk rowOf recordsOf recordOf twosComplement line certificateFile certFixed certCounts certDistance verdictOf certificateVerdict
 depth-9 = refl
 
 size-64 : Holds (reads (ofSize 64) (accepted (record { streams = 64; property = 0 })))
-unfolding ofSize rec nodeFile nodeVerdict recordsVerdict lengthOk fixedOk countsOk distanceOk lowest shapeOk unusedOk operandsOk typesOk propertyOk rowOf recordsOf recordOf twosComplement
+unfolding ofSize nodeFile recordBytes trailerBytes nodeVerdict recordsVerdict lengthOk fixedOk countsOk distanceOk lowest shapeOk unusedOk operandsOk typesOk propertyOk rowOf recordsOf recordOf twosComplement
 size-64 = refl
 
 size-65 : Holds (reads (ofSize 65) (refused 3 File))
-unfolding ofSize rec nodeFile nodeVerdict recordsVerdict lengthOk fixedOk countsOk distanceOk lowest shapeOk unusedOk operandsOk typesOk propertyOk rowOf recordsOf recordOf twosComplement
+unfolding ofSize nodeFile recordBytes trailerBytes nodeVerdict recordsVerdict lengthOk fixedOk countsOk distanceOk lowest shapeOk unusedOk operandsOk typesOk propertyOk rowOf recordsOf recordOf twosComplement
 size-65 = refl
 
 bands-whole : Holds (checks twoBands bandsWhole (accepted (record { depth = 1; base = 12; step = 12 })))
-unfolding twoBands bandsWhole rec nodeFile nodeVerdict recordsVerdict lengthOk fixedOk countsOk distanceOk lowest shapeOk unusedOk operandsOk typesOk propertyOk rowOf recordsOf recordOf twosComplement line certificateFile certFixed certCounts certDistance verdictOf certificateVerdict constraintsVerdict linesVerdict every shapePasses lineShape slotOk numbersOk namesAtom kindPasses kindOk kindAt decoded equationIn clauseIs basePropertyOk stepPropertyOk standsFrom joins joinOk
+unfolding twoBands bandsWhole nodeFile recordBytes trailerBytes nodeVerdict recordsVerdict lengthOk fixedOk countsOk distanceOk lowest shapeOk unusedOk operandsOk typesOk propertyOk rowOf recordsOf recordOf twosComplement line certificateFile certFixed certCounts certDistance verdictOf certificateVerdict constraintsVerdict linesVerdict every shapePasses lineShape slotOk numbersOk namesAtom kindPasses kindOk kindAt decoded equationIn clauseIs basePropertyOk stepPropertyOk standsFrom joins joinOk
 bands-whole = refl
 
 no-base-lines : Holds (checks twoBands stepAlone (refused 21 Base))
-unfolding twoBands stepAlone rec nodeFile nodeVerdict recordsVerdict lengthOk fixedOk countsOk distanceOk lowest shapeOk unusedOk operandsOk typesOk propertyOk rowOf recordsOf recordOf twosComplement line certificateFile certFixed certCounts certDistance verdictOf certificateVerdict constraintsVerdict linesVerdict every shapePasses lineShape slotOk numbersOk namesAtom kindPasses kindOk kindAt decoded equationIn clauseIs basePropertyOk stepPropertyOk standsFrom joins joinOk
+unfolding twoBands stepAlone nodeFile recordBytes trailerBytes nodeVerdict recordsVerdict lengthOk fixedOk countsOk distanceOk lowest shapeOk unusedOk operandsOk typesOk propertyOk rowOf recordsOf recordOf twosComplement line certificateFile certFixed certCounts certDistance verdictOf certificateVerdict constraintsVerdict linesVerdict every shapePasses lineShape slotOk numbersOk namesAtom kindPasses kindOk kindAt decoded equationIn clauseIs basePropertyOk stepPropertyOk standsFrom joins joinOk
 no-base-lines = refl
 
 pub starred : Starred

@@ -10,6 +10,7 @@ use Rattle.answers.specs.Answer.{Answer, accepted, refused, NodeValues, Certifi
 use Rattle.node.specs.Layout.{streamsOf}
 use Rattle.node.specs.Reads.{All}
 use Rattle.node.specs.Verdict.{verdictOf as nodeVerdict}
+use Rattle.node.specs.Written.{nodeFile}
 use Rattle.constraints.specs.Linear.{variable}
 use Rattle.literals.specs.Literals.{negative}
 use Rattle.rules.specs.Verdict.{verdictOf}
@@ -19,7 +20,7 @@ use Rattle.streams.specs.Typing.{Inputs, TypedInstant}
 use Rattle.streams.specs.Values.{valuesIn}
 use Rattle.session.specs.Instants.{answerOf, sliceOf}
 use Rattle.session.specs.Records.{begun}
-use Rattle.soundness.specs.Files.{rec, nodeFile, noughts, plusOne, minusOne, term, atMost, line, certificateFile}
+use Rattle.soundness.specs.Files.{rec, noughts, plusOne, minusOne, term, atMost, line, certificateFile}
 
 -- a just begun session's first call: its inputs, one number an input, and the values that it leaves, one number a stream
 pub record FirstCall : Type 0 where
@@ -43,26 +44,26 @@ pub data Case : Type 0 where
 unfoldable pub twoBands : List ℕ
 twoBands =
     nodeFile
-    (rec 0 0 0 0 0 0
-    ∷ rec 0 0 0 0 0 0
-    ∷ rec 2 0 0 0 0 0
-    ∷ rec 3 0 1 2 0 0
-    ∷ rec 3 0 0 3 0 0
-    ∷ rec 2 0 4 0 0 0
+    (rec 0 0 0 0 0 (pos 0)
+    ∷ rec 0 0 0 0 0 (pos 0)
+    ∷ rec 2 0 0 0 0 (pos 0)
+    ∷ rec 3 0 1 2 0 (pos 0)
+    ∷ rec 3 0 0 3 0 (pos 0)
+    ∷ rec 2 0 4 0 0 (pos 0)
     ∷ [])
     5
 
 -- 0 an int input; 1 = "Sum 0 + 0"; 2 the constant true, the property
 unfoldable pub doubling : List ℕ
-doubling = nodeFile (rec 0 1 0 0 0 0 ∷ rec 6 1 0 0 0 0 ∷ rec 1 0 0 0 0 1 ∷ []) 2
+doubling = nodeFile (rec 0 1 0 0 0 (pos 0) ∷ rec 6 1 0 0 0 (pos 0) ∷ rec 1 0 0 0 0 (pos 1) ∷ []) 2
 
 -- n bool inputs, the first the property
 unfoldable pub ofSize : (n : ℕ) → List ℕ
-ofSize n = nodeFile (replicate n (rec 0 0 0 0 0 0)) 0
+ofSize n = nodeFile (replicate n (rec 0 0 0 0 0 (pos 0))) 0
 
 -- 0 the constant true, the property
 unfoldable pub constantTrue : List ℕ
-constantTrue = nodeFile (rec 1 0 0 0 0 1 ∷ []) 0
+constantTrue = nodeFile (rec 1 0 0 0 0 (pos 1) ∷ []) 0
 
 -- stream s at offset j, and its negation, as literals
 abbrev is : (j s : ℕ) → ℕ
@@ -108,7 +109,7 @@ ofDepth k = certificateFile k [] (base k) (step (2 * k + 1) k)
 
 -- 0 the constant true, the property; 1 and 2 int inputs
 unfoldable pub trueAndInts : List ℕ
-trueAndInts = nodeFile (rec 1 0 0 0 0 1 ∷ rec 0 1 0 0 0 0 ∷ rec 0 1 0 0 0 0 ∷ []) 0
+trueAndInts = nodeFile (rec 1 0 0 0 0 (pos 1) ∷ rec 0 1 0 0 0 (pos 0) ∷ rec 0 1 0 0 0 (pos 0) ∷ []) 0
 
 -- a whole certificate for it whose last base line, 3, is of kind 4 with multipliers 1 and 1: its literals are the negations of
 -- "1 − 2 at most" one bound and "2 − 1 at most" another, so that these two are its opposites
