@@ -38,5 +38,11 @@ pub fn join_ok(file: &[u8], lines: usize, from: usize, i: usize) -> bool
     if !((from <= p) & (p < i) & ((from <= q) & (q < i))) {
         return false;
     }
-    is_join(file, lines + 80 * p, lines + 80 * q, Literal(head.r), at)
+    is_join(
+        file,
+        lines + 80 * p,
+        lines + 80 * q,
+        Literal(head.r as usize),
+        at,
+    )
 }

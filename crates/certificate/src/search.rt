@@ -19,7 +19,7 @@ pub fn stands_from(file: &[u8], at: usize, count: usize, l: Literal, j: usize) -
     if count <= j {
         return false;
     }
-    if literal_at(file, at, j) == l.0 {
+    if literal_at(file, at, j).0 == l.0 {
         return true;
     }
     stands_from(file, at, count, l, j + 1)
@@ -50,7 +50,7 @@ pub fn covers(
 {
     let mut j = 0;
     while j < count {
-        let l = Literal(literal_at(file, at, j));
+        let l = literal_at(file, at, j);
         if !is_covered(file, other, others, l, but) {
             return false;
         }

@@ -2,6 +2,7 @@
 mod layout;
 mod rules;
 mod search;
+mod variables;
 
 pub use layout::ConstraintHead;
 pub use layout::LineHead;
@@ -19,3 +20,4 @@ pub use rules::distance_ok;
 pub use rules::fixed_ok;
 pub use rules::sort_at;
 pub use search::first_bad;
+pub use variables::var;

@@ -10,7 +10,7 @@ use borrow.Author.Tests.{not-true, not-false}
 use denote.Ref.{now}
 use Rattle.constraints.specs.declared.layout.LineHead.{LineHead}
 use Rattle.constraints.specs.Layout.{Line, lineAt}
-use Rattle.rules.specs.Literals.{oppositeOf}
+use Rattle.literals.specs.Literals.{oppositeOf}
 use Rattle.rules.specs.Joins.{standsFrom, standsIn, joins}
 use Rattle.certificate.proofs.joins.is_join.Statement.{statement}
 use Rattle.certificate.proofs.joins.is_join.Tie as tie
