@@ -12,6 +12,7 @@ use Rattle.node.specs.declared.equation.Kind.{Kind}
 use Rattle.node.specs.declared.equation.Kind.the-variants.{Bool as BoolKind, Int as IntKind}
 use Rattle.node.specs.declared.equation.Equation.{Equation}
 use Rattle.node.specs.declared.equation.Equation.the-variants.{Input, Constant, Not, And, Or, Same, Sum, Difference, Multiple, AtMost, Equal, If, Arrow, FollowedBy}
+use Rattle.node.specs.Equations.{constantOf}
 use Rattle.rules.specs.declared.pattern.Clause.{Clause}
 use Rattle.rules.specs.declared.pattern.Named.{Named}
 use Rattle.rules.specs.declared.pattern.Named.the-variants.{Is, Missing}
@@ -21,7 +22,7 @@ use Rattle.rules.specs.declared.pattern.Place.{Place}
 use Rattle.rules.specs.declared.pattern.Place.the-variants.{Opening, Unsure, Inner}
 use Rattle.rules.specs.Clauses.{most, less, clause1, clause2, clause3, equalTo, sameAs, guarded, clauses, numbered}
 use Rattle.clauses.specs.Matching.{SmallPattern}
-use Rattle.clauses.specs.Limits.{constantOf, SmallClause, AllSmall}
+use Rattle.clauses.specs.Limits.{SmallClause, AllSmall}
 
 small1 : (p : Pattern) → SmallPattern p → SmallClause (clause1 p)
 small1 p h = record { first = h; second = h; third = h }
@@ -104,7 +105,7 @@ module _ (now back : ℕ → ℕ) (s : ℕ) where
       ),
     ),
   )
-  small-clauses kind (If a b c) place h =
+  small-clauses kind (If c a b) place h =
       small-append
       (map (guarded (No (now c))) (sameAs kind s (now a)))
       (map (guarded (Yes (now c))) (sameAs kind s (now b)))

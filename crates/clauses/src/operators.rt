@@ -165,7 +165,7 @@ pub fn equal(s: usize, a: usize, b: usize, r: u16) -> Named
 
 // Operator 11.
 pub fn if_then_else(kind: Kind, s: usize, a: usize, b: usize, c: usize, r: u16) -> Named
-    ensures { λ z. ⌜ z ≡ numbered (over kind (If a b c) s) r ⌝ }
+    ensures { λ z. ⌜ z ≡ numbered (over kind (If c a b) s) r ⌝ }
 {
     match kind {
         Kind::Bool => of_four(

@@ -10,7 +10,8 @@ use Rattle.node.specs.declared.equation.Kind.{Kind}
 use Rattle.node.specs.declared.equation.Kind.the-variants.{Bool as BoolKind, Int as IntKind}
 use Rattle.node.specs.declared.equation.Equation.{Equation}
 use Rattle.node.specs.declared.equation.Equation.the-variants.{Input, Constant, Not, And, Or, Same, Sum, Difference, Multiple, AtMost, Equal, If, Arrow, FollowedBy}
-use Rattle.node.specs.Reads.{All, Read, reads}
+use Rattle.node.specs.Reads.{All, Read, rowFor, reads}
+use Rattle.node.specs.Table.{rowOf}
 use Rattle.constraints.proofs.Totals.{Below}
 use Rattle.rules.specs.declared.pattern.Clause.{Clause}
 use Rattle.rules.specs.declared.pattern.Pattern.{Pattern}
@@ -76,7 +77,7 @@ module _ (n : ℕ) where
     constant-below IntKind k place = equal-below s (pos 0) s (pos 0) s k own own own
 
     -- whichever of the two the guard chooses
-    if-below : (own-kind : Kind) (a b c : ℕ) (place : Place) → now a < n → now b < n → now c < n → AllBelow (clauses own-kind (If a b c) place now back s)
+    if-below : (own-kind : Kind) (a b c : ℕ) (place : Place) → now a < n → now b < n → now c < n → AllBelow (clauses own-kind (If c a b) place now back s)
     if-below BoolKind a b c place l m o = (
       record { some = omega arith; first = o; second = own; third = l },
       (
@@ -109,6 +110,7 @@ module _ (n : ℕ) where
     followed-below a b Inner l m = same-below kind s (back b) own m
 
     pub clauses-below : (e : Equation) (place : Place) → All (OperandBelow n now back) (reads e) → AllBelow (clauses kind e place now back s)
+    unfolding rowOf rowFor reads
     clauses-below Input place r = tt
     clauses-below (Constant k) place r = constant-below kind k place
     clauses-below (Not a) place r =
@@ -153,6 +155,6 @@ module _ (n : ℕ) where
             (three (Yes s) (less (now a) (now b)) (less (now b) (now a)) own (less-below (now a) (now b) l m) (less-below (now b) (now a) m l), tt),
           ),
         )
-    clauses-below (If a b c) place r = if-below kind a b c place (r .0 .0) (r .1 .0 .0) (r .1 .1 .0 .0)
+    clauses-below (If c a b) place r = if-below kind a b c place (r .0 .0) (r .1 .0 .0) (r .1 .1 .0 .0)
     clauses-below (Arrow a b) place r = arrow-below a b place (r .0 .0) (r .1 .0 .0)
     clauses-below (FollowedBy a b) place r = followed-below a b place (r .0 .0) (r .1 .0 .1)

@@ -7,14 +7,13 @@ use Prim.Native.Nat.{ℕ, _<_}
 use lib.IntN.{ℤ}
 use lib.ListN.{length}
 use Rattle.answers.specs.Answer.{accepted, NodeValues}
-use Rattle.node.specs.Equations.{kindAt}
+use Rattle.node.specs.Equations.{kindAt, equationAt}
 use Rattle.node.specs.Inputs.{isInput, inputCount}
 use Rattle.node.specs.Layout.{streamsOf}
 use Rattle.node.specs.Verdict.{verdictOf}
-use Rattle.node.proofs.InputCounts.{input-equation}
+use Rattle.node.proofs.InputCounts.{input-equation, equation-input}
 use Rattle.streams.specs.Nodes.{nodeOf}
 use Rattle.streams.specs.Typing.{given, fitsTest, TypedInstant}
-use Rattle.streams.proofs.InputNumbers.{operator-0}
 use Rattle.streams.proofs.Numbers.{fits-test}
 use Rattle.session.specs.Instants.{inputFits}
 
@@ -24,7 +23,7 @@ module _ (file : List ℕ) (inputs : List ℤ) where
   typed-passes typed i l = go (isInput file i) refl
     where
       go : (b : Bool) → isInput file i ≡ b → (not b || fitsTest (kindAt file i) (given (nodeOf file) inputs i)) ≡ true
-      go true e = fits-test (kindAt file i) (given (nodeOf file) inputs i) .1 (typed .fits i l (input-equation file i e))
+      go true e = fits-test (kindAt file i) (given (nodeOf file) inputs i) .1 (typed .fits i l (input-equation (equationAt file i) e))
       go false e = refl
 
   pub passes-typed : {node : NodeValues} → verdictOf file ≡ accepted node → length inputs ≡ inputCount file → ((i : ℕ) → i < streamsOf file → inputFits file inputs i ≡ true) → TypedInstant (nodeOf file) inputs
@@ -32,5 +31,5 @@ module _ (file : List ℕ) (inputs : List ℤ) where
   passes-typed e count passes =
       record {
         count = count;
-        fits = λ i l is. fits-test (kindAt file i) (given (nodeOf file) inputs i) .0 (rw (operator-0 file e i l is) at (passes i l));
+        fits = λ i l is. fits-test (kindAt file i) (given (nodeOf file) inputs i) .0 (rw (equation-input (equationAt file i) is) at (passes i l));
       }
