@@ -2,8 +2,7 @@
 use Prim.Native.Nat.{ℕ, _<_, _≤_}
 use mathlib.Core.List.{List}
 use lib.IntN.{natAbs}
-use Rattle.node.specs.Equations.{equationAt}
-use Rattle.clauses.specs.Limits.{constantOf}
+use Rattle.node.specs.Equations.{equationAt, constantOf}
 
 -- the constants of the first n streams are within the limit of K
 abbrev pub ConstantsLimited : List ℕ → (n : ℕ) → Type 0

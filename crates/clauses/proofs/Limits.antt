@@ -13,6 +13,7 @@ use Rattle.node.specs.declared.equation.Kind.the-variants.{Bool as BoolKind, In
 use Rattle.node.specs.declared.equation.Equation.{Equation}
 use Rattle.node.specs.declared.equation.Equation.the-variants.{Input, Constant, Not, And, Or, Same, Sum, Difference, Multiple, AtMost, Equal, If, Arrow, FollowedBy}
 use Rattle.node.proofs.WellFormedness.{all-append}
+use Rattle.node.specs.Equations.{constantOf}
 use Rattle.rules.specs.declared.pattern.Clause.{Clause}
 use Rattle.rules.specs.declared.pattern.Named.the-variants.{Is}
 use Rattle.rules.specs.declared.pattern.Pattern.{Pattern}
@@ -23,7 +24,7 @@ use Rattle.rules.specs.Clauses.{most, less, clause1, clause2, clause3, equalTo,
 use Rattle.rules.proofs.ClauseForms.{all-map}
 use Rattle.clauses.specs.Matching.{SmallPattern}
 use Rattle.clauses.specs.Operators.{Has}
-use Rattle.clauses.specs.Limits.{constantOf, SmallClause, AllSmall}
+use Rattle.clauses.specs.Limits.{SmallClause, AllSmall}
 use Rattle.clauses.proofs.Numbering.{number-has}
 
 small1 : (p : Pattern) → SmallPattern p → SmallClause (clause1 p)
@@ -110,7 +111,7 @@ module _ (now back : ℕ → ℕ) (s : ℕ) where
       ),
     ),
   )
-  small-clauses kind (If a b c) place h =
+  small-clauses kind (If c a b) place h =
       all-append _ (map (guarded (No (now c))) (sameAs kind s (now a))) (map (guarded (Yes (now c))) (sameAs kind s (now b)))
       (small-guarded kind (No (now c)) s (now a) tt)
       (small-guarded kind (Yes (now c)) s (now b) tt)

@@ -186,7 +186,7 @@ fn guarded(p: Pattern, clause: Named) -> Named
 
 // Operator 11: two clauses of each branch.
 pub fn if_then_else(kind: Kind, s: u32, a: u32, b: u32, c: u32, r: u16) -> Named
-    ensures { λ z. ⌜ z ≡ numbered (over kind (If a b c) s) r ⌝ }
+    ensures { λ z. ⌜ z ≡ numbered (over kind (If c a b) s) r ⌝ }
 {
     if r < 2 {
         guarded(Pattern::No(c), same_as(kind, s, a, r))

@@ -59,8 +59,19 @@ pub fn clause_of(kind: Kind, e: Equation, place: Place, offset: u8, s: u16, r: u
         Equation::Multiple(k, a) => multiple(s, k, var(offset, a), r),
         Equation::AtMost(a, b) => at_most(s, var(offset, a), var(offset, b), r),
         Equation::Equal(a, b) => equal(s, var(offset, a), var(offset, b), r),
-        Equation::If(a, b, c) => {
-            if_then_else(kind, s, var(offset, a), var(offset, b), var(offset, c), r)
+        Equation::If {
+            condition,
+            then,
+            otherwise,
+        } => {
+            if_then_else(
+                kind,
+                s,
+                var(offset, then),
+                var(offset, otherwise),
+                var(offset, condition),
+                r,
+            )
         }
         Equation::Arrow(a, b) => later(kind, place, s, var(offset, a), var(offset, b), r),
         Equation::FollowedBy(a, b) => later(kind, place, s, var(offset, a), back(offset, b), r),

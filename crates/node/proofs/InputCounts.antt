@@ -1,6 +1,6 @@
 -- The inputs of a node: counted one record more at a time, and found by their number.
 -- Assumes nothing.
-use mathlib.Core.Path.{_≡_, refl, ap, subst}
+use mathlib.Core.Path.{_≡_, refl, sym, _∙_, ap, subst}
 use mathlib.Core.Logic.{⊎-elim}
 use mathlib.Core.Bool.{Bool, true, false, cond, not, _&&_, and-true}
 use mathlib.Core.List.{List}
@@ -14,10 +14,13 @@ use lib.ListN.{length}
 use Rattle.answers.specs.declared.Found.the-variants.{At}
 use Rattle.answers.proofs.Lowest.{found, first}
 use Rattle.answers.proofs.Tests.{both-true}
+use Rattle.node.specs.declared.equation.Kind.the-variants.{Bool as BoolKind}
+use Rattle.node.specs.declared.equation.Equation.{Equation}
 use Rattle.node.specs.declared.equation.Equation.the-variants.{Input}
-use Rattle.node.specs.Equations.{decoded, equationAt}
-use Rattle.node.specs.Layout.{recordsOf, recordOf}
-use Rattle.node.specs.Inputs.{isInput, withRecordAmong, inputsBelow, isInputNumber, inputRecord}
+use Rattle.node.specs.Equations.{fieldsOf, decoded}
+use Rattle.node.specs.Layout.{recordsOf}
+use Rattle.node.specs.Inputs.{isInputEquation, isInput, withRecordAmong, inputsBelow, isInputNumber, inputRecord}
+use Rattle.node.proofs.Encoding.{decoded-encoded}
 use Rattle.node.proofs.Records.{records-few, is-input-among}
 
 module _ (s : List ℕ) where
@@ -77,6 +80,10 @@ module _ (s : List ℕ) where
       (λ k m. not-before i k m (isInput s k) refl)
       (rw (e, eq-eqb (inputsBelow s i) (inputsBelow s i) refl))
 
-  pub input-equation : (i : ℕ) → isInput s i ≡ true → equationAt s i ≡ Input
-  unfolding decoded
-  input-equation i e = rw (eqb-true (recordOf s i .op) 0 e)
+-- an equation is an input where it is `Input`, and nowhere else
+pub input-equation : (e : Equation) → isInputEquation e ≡ true → e ≡ Input
+unfolding decoded
+input-equation e t = sym (decoded-encoded BoolKind e) ∙ rw (eqb-true (fieldsOf e .op) 0 t)
+
+pub equation-input : (e : Equation) → e ≡ Input → isInputEquation e ≡ true
+equation-input e t = rw t

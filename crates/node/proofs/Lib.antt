@@ -1,9 +1,9 @@
+pub mod Encoding
 pub mod FileRules
 pub mod InputCounts
 pub mod Notes
 pub mod Outcomes
 pub mod Records
-pub mod TableRule
 pub mod WellFormedness
 pub mod WithoutNote
 pub mod Written

@@ -7,12 +7,12 @@ use Prim.Native.Nat.{ℕ, _+_, _*_, _<_, _≤_, _^_}
 use native.Mathlib.Nat.{not-suc-le-zero}
 use native.Mathlib.Omega.{arith}
 use borrow.Author.Tests.{leb-true, ltb-true, le-leb}
-use lib.Dec.{leb, ltb, eqb}
+use lib.Dec.{leb, ltb}
 use lib.ListN.{length}
 use Rattle.answers.proofs.Tests.{both-true}
 use Rattle.node.specs.declared.layout.Record.{Record}
 use Rattle.node.specs.Equations.{kindOf, kindAt, decoded, equationAt, kindAmong, equationAmong}
-use Rattle.node.specs.Inputs.{isInput, isInputAmong}
+use Rattle.node.specs.Inputs.{isInputEquation, isInput, isInputAmong}
 use Rattle.node.specs.Layout.{recordAt, recordsOf, streamsOf, sizeOf, startOf, emptyRecord, recordOf, typeOf, recordAmong, typeAmong}
 
 -- a file that has a record has room for all n and the trailer
@@ -49,4 +49,4 @@ module _ (s : List ℕ) (n : ℕ) (e : n ≡ recordsOf s) (i : ℕ) where
   equation-among = ap decoded record-among
 
   pub is-input-among : isInputAmong s n i ≡ isInput s i
-  is-input-among = ap (λ (r : Record). eqb (r .op) 0) record-among
+  is-input-among = ap isInputEquation equation-among

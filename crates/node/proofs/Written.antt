@@ -10,23 +10,27 @@ use borrow.Author.Tests.{le-leb, leb-true, lt-ltb, ltb-true, ltb-false, eq-eqb}
 use lib.Dec.{leb, ltb, eqb}
 use lib.IntN.{ℤ, pos, negsuc, negℤ}
 use lib.ListN.{length, getD, List·getD-eq-default}
-use lib.Signed.{mag, leZ}
-use Rattle.answers.proofs.Tests.{both-true}
+use lib.Signed.{mag, _≤ℤ_}
+use Rattle.integers.proofs.Order.{leZ-true}
 use Rattle.answers.specs.Answer.{Answer, accepted, refused, NodeValues}
 use Rattle.fields.proofs.Written.{u16-back, u32-back, i32-back}
 use Rattle.node.specs.declared.layout.Trailer.{Trailer}
 use Rattle.node.specs.declared.layout.Record.{Record}
 use Rattle.node.specs.declared.table.Limit.{Limit}
 use Rattle.node.specs.declared.table.Limit.the-variants.{Zero, Value, Factor}
+use Rattle.node.specs.declared.equation.Kind.{Kind}
+use Rattle.node.specs.declared.equation.Kind.the-variants.{Bool as BoolKind, Int as IntKind}
+use Rattle.node.specs.Equations.{kindOf}
+use Rattle.node.specs.Reads.{InRange}
 use Rattle.node.specs.Layout.{trailerAt, trailerOf, recordAt, streamsOf, sizeOf, recordsOf, emptyRecord, recordOf, typeOf}
 use Rattle.node.specs.Note.{noteOf, noteLength}
 use Rattle.node.specs.Outcome.{NodeRules}
-use Rattle.node.specs.Rules.{constantLimit, within, constantOk, lengthOk, fixedOk, countsOk, distanceOk, shapeOk, operandsOk, typesOk, propertyOk}
+use Rattle.node.specs.Rules.{constantLimit, lengthOk, fixedOk, countsOk, distanceOk, shapeOk, operandsOk, typesOk, propertyOk}
 use Rattle.node.specs.Table.{rowOf}
 use Rattle.node.specs.Verdict.{verdictOf}
 use Rattle.node.specs.Written.{recordBytes, trailerBytes, trailerFor, nodeFile, recordIn, NodeRecords}
 use Rattle.node.proofs.Outcomes.{accepted-values, keeps-accepted}
-use Rattle.node.proofs.WellFormedness.{shape-constant}
+use Rattle.node.proofs.Encoding.{shape}
 use Rattle.node.proofs.WithoutNote.{trailer-on, record-on}
 
 trailer-back : (t : Trailer) → trailerAt (trailerBytes t) 0 ≡ t
@@ -113,20 +117,17 @@ module _ (records : List Record) (property : ℕ) where
         go false e = sym (List·getD-eq-default records emptyRecord (ltb-false i (length records) e))
 
 -- K against its rule is within 32 bits
-within-fits : (low k high : ℤ) → mag low < 2 ^ 31 → mag high < 2 ^ 31 → within low k high ≡ true → mag k < 2 ^ 31
-within-fits low (pos n) (pos h) l m e = omega (arith, leb-true n h (both-true (leZ low (pos n)) (leb n h) e .1))
-within-fits low (pos n) (negsuc h) l m e = absurd (false≢true (both-true (leZ low (pos n)) false e .1))
-within-fits (pos b) (negsuc n) high l m e = absurd (false≢true (both-true false (leZ (negsuc n) high) e .0))
-within-fits (negsuc b) (negsuc n) high l m e = omega (arith, leb-true n b (both-true (leb n b) (leZ (negsuc n) high) e .0))
+in-fits : (low k high : ℤ) → mag low < 2 ^ 31 → mag high < 2 ^ 31 → (low ≤ℤ k) × (k ≤ℤ high) → mag k < 2 ^ 31
+in-fits low (pos n) (pos h) l m e = omega (arith, leb-true n h (leZ-true (pos n) (pos h) .1 (e .1)))
+in-fits low (pos n) (negsuc h) l m e = absurd (false≢true (leZ-true (pos n) (negsuc h) .1 (e .1)))
+in-fits (pos b) (negsuc n) high l m e = absurd (false≢true (leZ-true (pos b) (negsuc n) .1 (e .0)))
+in-fits (negsuc b) (negsuc n) high l m e = omega (arith, leb-true n b (leZ-true (negsuc b) (negsuc n) .1 (e .0)))
 
-constant-fits : (limit : Limit) (kind : ℕ) (k : ℤ) → constantOk limit kind k ≡ true → mag k < 2 ^ 31
-constant-fits Zero kind k e = within-fits (pos 0) k (pos 0) (omega arith) (omega arith) e
-constant-fits Value kind k e = go (eqb kind 0) e
-  where
-    go : (b : Bool) → cond b (within (pos 0) k (pos 1)) (within (negℤ constantLimit) k constantLimit) ≡ true → mag k < 2 ^ 31
-    go true = within-fits (pos 0) k (pos 1) (omega arith) (omega arith)
-    go false = within-fits (negℤ constantLimit) k constantLimit (omega arith) (omega arith)
-constant-fits Factor kind k e = within-fits (negℤ constantLimit) k constantLimit (omega arith) (omega arith) e
+constant-fits : (limit : Limit) (kind : Kind) (k : ℤ) → InRange limit kind k → mag k < 2 ^ 31
+constant-fits Zero kind k = in-fits (pos 0) k (pos 0) (omega arith) (omega arith)
+constant-fits Value BoolKind k = in-fits (pos 0) k (pos 1) (omega arith) (omega arith)
+constant-fits Value IntKind k = in-fits (negℤ constantLimit) k constantLimit (omega arith) (omega arith)
+constant-fits Factor kind k = in-fits (negℤ constantLimit) k constantLimit (omega arith) (omega arith)
 
 module _ (records : List Record) (property : ℕ) (keep : NodeRecords records property) where
   abbrev written : List ℕ
@@ -135,7 +136,7 @@ module _ (records : List Record) (property : ℕ) (keep : NodeRecords records pr
   record-is : (i : ℕ) → recordOf written i ≡ recordIn records i
   record-is =
       written-record records property
-      (λ i l. let r = recordIn records i in constant-fits (rowOf (r .op) .k) (r .kind) (r .k) (shape-constant r (keep .shapes i l)))
+      (λ i l. let r = recordIn records i in constant-fits (rowOf (r .op) .k) (kindOf (r .kind)) (r .k) (shape r (keep .shapes i l) .constant))
 
   streams-is : streamsOf written ≡ length records
   streams-is = written-streams records property

@@ -3,6 +3,7 @@ use Prim.Native.Nat.{ℕ}
 use mathlib.Core.List.{List, [], _∷_}
 use mathlib.Core.Bool.{cond}
 use lib.Dec.{eqb}
+use lib.IntN.{ℤ, pos}
 use lib.ListN.{getD}
 use Rattle.node.specs.declared.layout.Record.{Record}
 use Rattle.node.specs.declared.equation.Kind.{Kind}
@@ -14,6 +15,10 @@ use Rattle.node.specs.Layout.{recordOf, typeOf, recordAmong, typeAmong}
 -- "type byte (0 bool, 1 int)"
 abbrev pub kindOf : ℕ → Kind
 kindOf byte = cond (eqb byte 0) BoolKind IntKind
+
+abbrev pub byteOf : Kind → ℕ
+byteOf BoolKind = 0
+byteOf IntKind = 1
 
 -- the type of stream i
 unfoldable pub kindAt : List ℕ → ℕ → Kind
@@ -33,7 +38,7 @@ equations r =
     ∷ Multiple (r .k) (r .a)
     ∷ AtMost (r .a) (r .b)
     ∷ Equal (r .a) (r .b)
-    ∷ If (r .a) (r .b) (r .c)
+    ∷ If (r .c) (r .a) (r .b)
     ∷ Arrow (r .a) (r .b)
     ∷ FollowedBy (r .a) (r .b)
     ∷ []
@@ -41,6 +46,36 @@ equations r =
 -- the equation of a record; past the table, where rule 5 refuses, an input
 unfoldable pub decoded : Record → Equation
 decoded r = getD (equations r) (r .op) Input
+
+-- the operator, operands and constant of an equation, the rest 0: "Unused fields are zero"
+abbrev fields : (op a b c : ℕ) (k : ℤ) → Record
+fields op a b c k = record { op = op; kind = 0; a = a; b = b; c = c; k = k; rest = 0 }
+
+abbrev pub fieldsOf : Equation → Record
+fieldsOf Input = fields 0 0 0 0 (pos 0)
+fieldsOf (Constant k) = fields 1 0 0 0 k
+fieldsOf (Not a) = fields 2 a 0 0 (pos 0)
+fieldsOf (And a b) = fields 3 a b 0 (pos 0)
+fieldsOf (Or a b) = fields 4 a b 0 (pos 0)
+fieldsOf (Same a b) = fields 5 a b 0 (pos 0)
+fieldsOf (Sum a b) = fields 6 a b 0 (pos 0)
+fieldsOf (Difference a b) = fields 7 a b 0 (pos 0)
+fieldsOf (Multiple k a) = fields 8 a 0 0 k
+fieldsOf (AtMost a b) = fields 9 a b 0 (pos 0)
+fieldsOf (Equal a b) = fields 10 a b 0 (pos 0)
+fieldsOf (If c a b) = fields 11 a b c (pos 0)
+fieldsOf (Arrow a b) = fields 12 a b 0 (pos 0)
+fieldsOf (FollowedBy a b) = fields 13 a b 0 (pos 0)
+
+-- the record of an equation: `decoded` and it are inverse (proofs/Encoding.antt)
+abbrev pub encoded : Kind → Equation → Record
+encoded kind e =
+    let f = fieldsOf e in
+    record { op = f .op; kind = byteOf kind; a = f .a; b = f .b; c = f .c; k = f .k; rest = 0 }
+
+-- the constant K of an equation, 0 where it has none
+abbrev pub constantOf : Equation → ℤ
+constantOf e = fieldsOf e .k
 
 -- the equation of stream i
 abbrev pub equationAt : List ℕ → ℕ → Equation

@@ -5,15 +5,21 @@ use mathlib.Core.Bool.{Bool, not, cond, _&&_}
 use lib.Dec.{eqb, ltb}
 use Rattle.answers.specs.declared.Found.{Found}
 use Rattle.answers.specs.Checks.{lowest}
-use Rattle.node.specs.Layout.{recordOf, recordsOf, recordAmong}
+use Rattle.node.specs.declared.equation.Equation.{Equation}
+use Rattle.node.specs.Equations.{fieldsOf, equationAt, equationAmong}
+use Rattle.node.specs.Layout.{recordsOf}
 
--- record i is an input: its operator is 0
+-- an equation is an input: its operator is 0
+abbrev pub isInputEquation : Equation → Bool
+isInputEquation e = eqb (fieldsOf e .op) 0
+
+-- record i is an input
 abbrev pub isInput : List ℕ → ℕ → Bool
-isInput s i = eqb (recordOf s i .op) 0
+isInput s i = isInputEquation (equationAt s i)
 
 -- record i of n is an input
 abbrev pub isInputAmong : List ℕ → (n i : ℕ) → Bool
-isInputAmong s n i = eqb (recordAmong s n i .op) 0
+isInputAmong s n i = isInputEquation (equationAmong s n i)
 
 -- how many of the first i records are inputs
 abbrev pub withRecord : List ℕ → (i inputs : ℕ) → ℕ

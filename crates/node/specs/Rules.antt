@@ -1,6 +1,6 @@
 -- The conditions 1 to 8 of "Where each refusal is met", each as the test that a file passes.
 use Prim.Native.Nat.{ℕ}
-use mathlib.Core.Bool.{Bool, true, cond, _&&_, _||_}
+use mathlib.Core.Bool.{Bool, true, _&&_, _||_}
 use lib.Dec.{leb, ltb, eqb}
 use lib.IntN.{ℤ, pos, negℤ}
 use lib.Signed.{leZ}
@@ -13,8 +13,11 @@ use Rattle.node.specs.declared.table.Operand.the-variants.{Unused, Now, 
 use Rattle.node.specs.declared.table.Limit.{Limit}
 use Rattle.node.specs.declared.table.Limit.the-variants.{Zero, Value, Factor}
 use Rattle.node.specs.declared.table.Row.{Row}
+use Rattle.node.specs.declared.equation.Kind.{Kind}
+use Rattle.node.specs.declared.equation.Kind.the-variants.{Bool as BoolKind, Int as IntKind}
+use Rattle.node.specs.Equations.{kindOf}
 use Rattle.node.specs.Layout.{sizeOf}
-use Rattle.node.specs.Table.{rowOf, readsIt}
+use Rattle.node.specs.Table.{operators, rowOf, readsIt}
 
 -- 1: length. "From 16 to 65,535 bytes."
 unfoldable pub lengthOk : (size : ℕ) → Bool
@@ -39,11 +42,15 @@ within low k high = leZ low k && leZ k high
 abbrev pub constantLimit : ℤ
 constantLimit = pos 1000000000
 
--- "K against its rule"
-abbrev pub constantOk : Limit → (kind : ℕ) → (k : ℤ) → Bool
-constantOk Zero kind k = within (pos 0) k (pos 0)
-constantOk Value kind k = cond (eqb kind 0) (within (pos 0) k (pos 1)) (within (negℤ constantLimit) k constantLimit)
-constantOk Factor kind k = within (negℤ constantLimit) k constantLimit
+-- "K against its rule": the least and the greatest that it may be
+abbrev pub rangeOf : Limit → Kind → ℤ × ℤ
+rangeOf Zero kind = (pos 0, pos 0)
+rangeOf Value BoolKind = (pos 0, pos 1)
+rangeOf Value IntKind = (negℤ constantLimit, constantLimit)
+rangeOf Factor kind = (negℤ constantLimit, constantLimit)
+
+abbrev pub constantOk : Limit → Kind → (k : ℤ) → Bool
+constantOk limit kind k = within (rangeOf limit kind .0) k (rangeOf limit kind .1)
 
 -- "Unused fields are zero": an operand that the row does not read, and the last four bytes
 unfoldable pub unusedOk : Row → Record → Bool
@@ -56,9 +63,9 @@ unusedOk row r =
 -- 5: operator over 13, type byte over 1, K against its rule, unused field not 0
 unfoldable pub shapeOk : Record → Bool
 shapeOk r =
-    leb (r .op) 13
+    ltb (r .op) operators
     && leb (r .kind) 1
-    && constantOk (rowOf (r .op) .k) (r .kind) (r .k)
+    && constantOk (rowOf (r .op) .k) (kindOf (r .kind)) (r .k)
     && unusedOk (rowOf (r .op)) r
 
 -- "An operand needed now has a lower number than its record"

@@ -3,7 +3,7 @@
 use Prim.Native.Nat.{ℕ}
 use mathlib.Core.List.{List, [], _∷_}
 use mathlib.Core.Bool.{Bool, true, false}
-use lib.ListN.{getD}
+use lib.ListN.{length, getD}
 use Rattle.node.specs.declared.table.Wanted.{Wanted}
 use Rattle.node.specs.declared.table.Wanted.the-variants.{ABool, AnInt, Own}
 use Rattle.node.specs.declared.table.Operand.{Operand}
@@ -33,6 +33,10 @@ rows =
     ∷ row Own (Now Own) (Now Own) Unused Zero  -- 12: a at instant 0, later b; as s
     ∷ row Own (Now Own) (Before Own) Unused Zero  -- 13: a at instant 0, later b one instant before; as s
     ∷ []
+
+-- how many operators there are
+abbrev pub operators : ℕ
+operators = length rows
 
 -- the row of an operator; past the table, where rule 5 refuses, that of an input
 unfoldable pub rowOf : ℕ → Row

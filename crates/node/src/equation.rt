@@ -12,7 +12,8 @@ pub enum Kind {
     Int,
 }
 
-// One case an operator, 0 to 13 in order: "A record is one of fourteen operators, each with its own operands".
+// One case an operator, 0 to 13 in order: "A record is one of fourteen operators, each with its own operands". They
+// stand in the order of the operator's value, K·a or a, b; where c comes first they have names.
 pub enum Equation {
     Input,
     Constant(i32),
@@ -25,8 +26,11 @@ pub enum Equation {
     Multiple(i32, u16),
     AtMost(u16, u16),
     Equal(u16, u16),
-    // If the third then the first, else the second.
-    If(u16, u16, u16),
+    If {
+        condition: u16,
+        then: u16,
+        otherwise: u16,
+    },
     // a -> b
     Arrow(u16, u16),
     // a -> pre b
@@ -53,7 +57,11 @@ pub fn decode(r: Record) -> Equation
         8 => Equation::Multiple(r.k, a),
         9 => Equation::AtMost(a, b),
         10 => Equation::Equal(a, b),
-        11 => Equation::If(a, b, c),
+        11 => Equation::If {
+            condition: c,
+            then: a,
+            otherwise: b,
+        },
         12 => Equation::Arrow(a, b),
         13 => Equation::FollowedBy(a, b),
         _ => Equation::Input,

@@ -1,5 +1,6 @@
 // The inputs of a node, in record order.
-use crate::layout::record_among;
+use crate::equation::Equation;
+use crate::equation::equation_among;
 use crate::layout::records_of;
 use answers::Found;
 ghost use mathlib.Core.Path.{_≡_};
@@ -9,8 +10,10 @@ ghost use Rattle.node.specs.Inputs.{isInput, isInputAmong, withRecordAmo
 pub fn is_input_among(file: &[u8], n: usize, i: usize) -> bool
     ensures { λ r. ⌜ r ≡ isInputAmong (now (file .entry)) n i ⌝ }
 {
-    let record = record_among(file, n, i);
-    record.op == 0
+    match equation_among(file, n, i) {
+        Equation::Input => true,
+        _ => false,
+    }
 }
 
 // Record i is an input.

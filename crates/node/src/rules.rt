@@ -3,12 +3,14 @@ use crate::layout::Record;
 use crate::layout::Trailer;
 use crate::layout::type_among;
 use crate::table::Limit;
+use crate::table::OPERATORS;
 use crate::table::Operand;
 use crate::table::Row;
 use crate::table::Wanted;
 use crate::table::reads;
 use crate::table::row_of;
 ghost use mathlib.Core.Path.{_≡_};
+ghost use Rattle.node.specs.Equations.{kindOf};
 ghost use Rattle.node.specs.Layout.{typeAmong};
 ghost use Rattle.node.specs.Rules.{lengthOk, fixedOk, countsOk, distanceOk, within, constantOk, unusedOk, shapeOk, placed, operandsOk, hasType, typed, typesOk, propertyOk};
 
@@ -50,7 +52,7 @@ fn between(low: i32, k: i32, high: i32) -> bool
 
 // K against its rule.
 fn constant_ok(limit: Limit, kind: u8, k: i32) -> bool
-    ensures { λ r. ⌜ r ≡ constantOk limit kind k ⌝ }
+    ensures { λ r. ⌜ r ≡ constantOk limit (kindOf kind) k ⌝ }
 {
     match limit {
         Limit::Zero => between(0, k, 0),
@@ -81,7 +83,7 @@ pub fn shape_ok(r: Record) -> bool
 {
     let row = row_of(r.op);
     let limit = row.k;
-    (r.op <= 13) & (r.kind <= 1) & constant_ok(limit, r.kind, r.k) & unused_ok(row, r)
+    (r.op < OPERATORS) & (r.kind <= 1) & constant_ok(limit, r.kind, r.k) & unused_ok(row, r)
 }
 
 // An operand that is read is below n and, where it is needed now, lower than its record.

@@ -140,6 +140,9 @@ const FOLLOWED_BY: Row = Row {
     k: Limit::Zero,
 };
 
+// How many operators there are.
+pub const OPERATORS: u8 = 14;
+
 // The row of an operator; past the table, that of an input.
 pub fn row_of(op: u8) -> Row
     ensures { λ r. ⌜ r ≡ rowOf op ⌝ }

@@ -14,7 +14,9 @@ use Rattle.node.specs.declared.equation.Kind.{Kind}
 use Rattle.node.specs.declared.equation.Kind.the-variants.{Bool as BoolKind, Int as IntKind}
 use Rattle.node.specs.declared.equation.Equation.{Equation}
 use Rattle.node.specs.declared.equation.Equation.the-variants.{Input, Constant, Not, And, Or, Same, Sum, Difference, Multiple, AtMost, Equal, If, Arrow, FollowedBy}
-use Rattle.node.specs.Reads.{All, reads, ConstantIn, ConstantOk}
+use Rattle.node.specs.declared.table.Limit.the-variants.{Value}
+use Rattle.node.specs.Reads.{All, rowFor, reads, InRange, ConstantOk}
+use Rattle.node.specs.Table.{rowOf}
 use Rattle.node.proofs.WellFormedness.{all-append}
 use Rattle.streams.specs.Meaning.{meaning}
 use Rattle.streams.specs.Values.{number, truth, equals, Values}
@@ -123,7 +125,7 @@ module _ (w : Valuation) (now back : ℕ → ℕ) (s : ℕ) (kind : Kind) (place
 
   -- ---- row 1: a bool constant is 0 or 1
 
-  constant-true : (own : Kind) (k : ℤ) → ConstantIn own k → w s ≡ k → AllTrue w (clauses own (Constant k) place now back s)
+  constant-true : (own : Kind) (k : ℤ) → InRange Value own k → w s ≡ k → AllTrue w (clauses own (Constant k) place now back s)
   unfolding clauseTrue patternTrue
   constant-true BoolKind k fits row = go (zero-or-one k fits)
     where
@@ -134,7 +136,7 @@ module _ (w : Valuation) (now back : ℕ → ℕ) (s : ℕ) (kind : Kind) (place
 
   -- ---- rows 11 to 13: equal to one of two streams
 
-  if-true : (a b c : ℕ) → RowOf (If a b c) → Hold (If a b c)
+  if-true : (a b c : ℕ) → RowOf (If c a b) → Hold (If c a b)
   unfolding patternTrue
   if-true a b c row =
       all-append _ (map (guarded (No (now c))) (sameAs kind s (now a))) (map (guarded (Yes (now c))) (sameAs kind s (now b)))
@@ -147,12 +149,14 @@ module _ (w : Valuation) (now back : ℕ → ℕ) (s : ℕ) (kind : Kind) (place
   arrow-true a b Inner p row = same-true w kind s (now b) (row ∙ rw (p .0))
 
   followed-true : (a b : ℕ) (at : Place) → PastAt at first past w back (FollowedBy a b) → RowOf (FollowedBy a b) → AllTrue w (clauses kind (FollowedBy a b) at now back s)
+  unfolding rowOf rowFor reads
   followed-true a b Opening p row = same-true w kind s (now a) (row ∙ rw p)
   followed-true a b Unsure p row = tt
   followed-true a b Inner p row = same-true w kind s (back b) (row ∙ rw (p .0) (p .1 .1 .0))
 
   -- all fourteen
   pub clauses-true : (e : Equation) → ConstantOk kind e → PastAt place first past w back e → RowOf e → Hold e
+  unfolding rowOf rowFor
   clauses-true Input k p row = tt
   clauses-true (Constant z) k p row = constant-true kind z k row
   clauses-true (Not a) k p row = not-true a (told (not (truth (w (now a)))) row)
@@ -167,6 +171,6 @@ module _ (w : Valuation) (now back : ℕ → ℕ) (s : ℕ) (kind : Kind) (place
       equal-true w s z (now a) (pos 0) (now a) (pos 0) (row ∙ multiple-sum z (w (now a)))
   clauses-true (AtMost a b) k p row = at-most-true a b (told (leZ (w (now a)) (w (now b))) row)
   clauses-true (Equal a b) k p row = equal-to-true a b (equal-told a b row)
-  clauses-true (If a b c) k p row = if-true a b c row
+  clauses-true (If c a b) k p row = if-true a b c row
   clauses-true (Arrow a b) k p row = arrow-true a b place p row
   clauses-true (FollowedBy a b) k p row = followed-true a b place p row

@@ -10,7 +10,8 @@ use Rattle.node.specs.declared.equation.Kind.{Kind}
 use Rattle.node.specs.declared.equation.Kind.the-variants.{Bool as BoolKind, Int as IntKind}
 use Rattle.node.specs.declared.equation.Equation.{Equation}
 use Rattle.node.specs.declared.equation.Equation.the-variants.{Input, Constant, Not, And, Or, Same, Sum, Difference, Multiple, AtMost, Equal, If, Arrow, FollowedBy}
-use Rattle.node.specs.Reads.{All, Read, reads}
+use Rattle.node.specs.Reads.{All, Read, rowFor, reads}
+use Rattle.node.specs.Table.{rowOf}
 use Rattle.node.proofs.WellFormedness.{all-append}
 use Rattle.constraints.proofs.Totals.{Below}
 use Rattle.rules.specs.declared.pattern.Clause.{Clause}
@@ -89,6 +90,7 @@ module _ (n : ℕ) where
     constant-below IntKind k place = equal-below s (pos 0) s (pos 0) s k own own own
 
     pub clauses-below : (e : Equation) (place : Place) → All (OperandBelow n now back) (reads e) → AllBelow (clauses kind e place now back s)
+    unfolding rowOf rowFor reads
     clauses-below Input place r = tt
     clauses-below (Constant k) place r = constant-below kind k place
     clauses-below (Not a) place r =
@@ -133,7 +135,7 @@ module _ (n : ℕ) where
             (three (Yes s) (less (now a) (now b)) (less (now b) (now a)) own (less-below (now a) (now b) l m) (less-below (now b) (now a) m l), tt),
           ),
         )
-    clauses-below (If a b c) place r =
+    clauses-below (If c a b) place r =
         all-append _ (map (guarded (No (now c))) (sameAs kind s (now a))) (map (guarded (Yes (now c))) (sameAs kind s (now b)))
         (guarded-below kind (No (now c)) s (now a) (r .1 .1 .0 .0) own (r .0 .0))
         (guarded-below kind (Yes (now c)) s (now b) (r .1 .1 .0 .0) own (r .1 .0 .0))

@@ -94,7 +94,7 @@ clauses kind (Equal a b) at now back s =
     ∷ clause2 (No s) (most (now b) (now a))
     ∷ clause3 (Yes s) (less (now a) (now b)) (less (now b) (now a))
     ∷ []
-clauses kind (If a b c) at now back s =
+clauses kind (If c a b) at now back s =
     map (guarded (No (now c))) (sameAs kind s (now a)) ++ map (guarded (Yes (now c))) (sameAs kind s (now b))
 clauses kind (Arrow a b) at now back s = firstThen kind at s (now a) (now b)
 clauses kind (FollowedBy a b) at now back s = firstThen kind at s (now a) (back b)

@@ -18,7 +18,7 @@ use Rattle.answers.specs.Answer.{Answer, accepted, NodeValues}
 use Rattle.answers.specs.Checks.{check, checkAll, lowest}
 use Rattle.answers.proofs.InARow.{by-check, by-check-all}
 use Rattle.answers.proofs.Lowest.{all}
-use Rattle.node.specs.Equations.{kindAt}
+use Rattle.node.specs.Equations.{kindAt, equationAt}
 use Rattle.node.specs.Inputs.{inputCount}
 use Rattle.node.specs.Layout.{streamsOf}
 use Rattle.node.specs.Verdict.{verdictOf}
@@ -26,7 +26,7 @@ use Rattle.streams.specs.Nodes.{Node, nodeOf}
 use Rattle.streams.specs.Solutions.{Streams}
 use Rattle.streams.specs.Typing.{TypedInstant, given}
 use Rattle.streams.specs.Values.{Values, valuesIn}
-use Rattle.streams.proofs.InputNumbers.{operator-0}
+use Rattle.node.proofs.InputCounts.{equation-input}
 use Rattle.streams.proofs.Numbers.{fits-test}
 use Rattle.session.specs.declared.Session.{Session}
 use Rattle.session.specs.Instants.{inputFits, workedOut, valueInside, answerOf}
@@ -63,7 +63,7 @@ module _ (file : List ℕ) {node : NodeValues} (e : verdictOf file ≡ accepted 
         count = eqb-true _ _ count;
         fits = λ i l is.
             fits-test (kindAt file i) (given (nodeOf file) (c .inputs) i) .0
-            (rw (operator-0 file e i l is) at (all (inputTyped file (c .inputs)) (streamsOf file) input i l));
+            (rw (equation-input (equationAt file i) is) at (all (inputTyped file (c .inputs)) (streamsOf file) input i l));
       }
 
   -- so the values matter where the inputs are typed

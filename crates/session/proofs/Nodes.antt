@@ -4,14 +4,13 @@ use mathlib.Core.Path.{_≡_, refl, sym, _∙_, ap, ap₂, fun-ext}
 use mathlib.Core.Bool.{Bool, not, _||_}
 use mathlib.Core.List.{List}
 use Prim.Native.Nat.{ℕ, zero, suc}
-use lib.Dec.{eqb}
 use lib.IntN.{ℤ}
 use Rattle.answers.specs.Answer.{accepted, NodeValues}
 use Rattle.node.specs.declared.equation.Kind.{Kind}
 use Rattle.node.specs.declared.equation.Equation.{Equation}
 use Rattle.node.specs.declared.layout.Record.{Record}
 use Rattle.node.specs.Equations.{kindOf, kindAt, decoded, equationAt}
-use Rattle.node.specs.Inputs.{isInput, inputsBelow, inputCount}
+use Rattle.node.specs.Inputs.{isInputEquation, isInput, inputsBelow, inputCount}
 use Rattle.node.specs.Layout.{streamsOf, propertyOf, recordsOf}
 use Rattle.node.specs.Note.{withoutNote}
 use Rattle.node.specs.Verdict.{verdictOf}
@@ -42,7 +41,7 @@ module _ (file : List ℕ) {node : NodeValues} (e : verdictOf file ≡ accepted 
   property-same = ap (λ (v : NodeValues). v .property) values-same
 
   is-input-same : (i : ℕ) → isInput rest i ≡ isInput file i
-  is-input-same i = ap (λ (r : Record). eqb (r .op) 0) (without-note-record file e i)
+  is-input-same i = ap (λ (r : Record). isInputEquation (decoded r)) (without-note-record file e i)
 
   kinds-same : kindAt rest ≡ kindAt file
   unfolding kindAt

@@ -1,7 +1,6 @@
 pub mod AcceptedNodes
 pub mod Agreement
 pub mod Evaluations
-pub mod InputNumbers
 pub mod Keeping
 pub mod Numbers
 pub mod Orders

@@ -6,7 +6,8 @@ use mathlib.Core.List.{List, [], _∷_}
 use lib.IntN.{ℤ}
 use Rattle.node.specs.declared.equation.Equation.{Equation}
 use Rattle.node.specs.declared.equation.Equation.the-variants.{Input, Constant, Not, And, Or, Same, Sum, Difference, Multiple, AtMost, Equal, If, Arrow, FollowedBy}
-use Rattle.node.specs.Reads.{Read, reads, All}
+use Rattle.node.specs.Reads.{Read, rowFor, reads, All}
+use Rattle.node.specs.Table.{rowOf}
 use Rattle.streams.specs.Meaning.{meaning}
 use Rattle.streams.specs.Values.{Values}
 
@@ -27,6 +28,7 @@ abbrev pub isRead : (first : Bool) → Read → Bool
 isRead first r = r .now || not first
 
 pub meaning-rests : (e : Equation) (g : ℤ) (f : Bool) (p v q w : Values) → All (λ r. isRead f r ≡ true → found p v r ≡ found q w r) (reads e) → meaning e g f p v ≡ meaning e g f q w
+unfolding rowOf rowFor reads
 meaning-rests Input g f p v q w h = refl
 meaning-rests (Constant k) g f p v q w h = refl
 meaning-rests (Not a) g f p v q w h = rw (h .0 refl)
@@ -38,7 +40,7 @@ meaning-rests (Difference a b) g f p v q w h = rw (h .0 refl, h .1 .0 refl)
 meaning-rests (Multiple k a) g f p v q w h = rw (h .0 refl)
 meaning-rests (AtMost a b) g f p v q w h = rw (h .0 refl, h .1 .0 refl)
 meaning-rests (Equal a b) g f p v q w h = rw (h .0 refl, h .1 .0 refl)
-meaning-rests (If a b c) g f p v q w h = rw (h .0 refl, h .1 .0 refl, h .1 .1 .0 refl)
+meaning-rests (If c a b) g f p v q w h = rw (h .0 refl, h .1 .0 refl, h .1 .1 .0 refl)
 meaning-rests (Arrow a b) g f p v q w h = rw (h .0 refl, h .1 .0 refl)
 meaning-rests (FollowedBy a b) g true p v q w h = h .0 refl
 meaning-rests (FollowedBy a b) g false p v q w h = h .1 .0 refl

@@ -10,7 +10,9 @@ use Rattle.node.specs.declared.equation.Kind.{Kind}
 use Rattle.node.specs.declared.equation.Kind.the-variants.{Bool as BoolKind, Int as IntKind}
 use Rattle.node.specs.declared.equation.Equation.{Equation}
 use Rattle.node.specs.declared.equation.Equation.the-variants.{Input, Constant, Not, And, Or, Same, Sum, Difference, Multiple, AtMost, Equal, If, Arrow, FollowedBy}
-use Rattle.node.specs.Reads.{reads, yields, wantedKind, All, ReadOk, ConstantIn, ConstantOk}
+use Rattle.node.specs.declared.table.Limit.the-variants.{Value}
+use Rattle.node.specs.Reads.{rowFor, reads, yields, wantedKind, All, ReadOk, InRange, ConstantOk}
+use Rattle.node.specs.Table.{rowOf}
 use Rattle.streams.specs.Meaning.{meaning}
 use Rattle.streams.specs.Nodes.{Node, WellFormedNode}
 use Rattle.streams.specs.Solutions.{Streams, isFirst}
@@ -22,7 +24,7 @@ use Rattle.streams.proofs.Numbers.{number-fits}
 use Rattle.streams.proofs.Orders.{byNumber, ranked-by-number}
 use Rattle.streams.proofs.Reading.{all-map₂, found, isRead}
 
-constant-fits : (own : Kind) (k : ℤ) → ConstantIn own k → Fits own k
+constant-fits : (own : Kind) (k : ℤ) → InRange Value own k → Fits own k
 constant-fits BoolKind k c = c
 constant-fits IntKind k c = tt
 
@@ -43,6 +45,7 @@ an-int z e = subst (λ (k : Kind). Fits k z) (sym e) tt
 
 -- one operator, over its stream's type
 pub meaning-fits : (own : Kind) (e : Equation) (g : ℤ) (f : Bool) (p v : Values) → own ≡ wantedKind own (yields e) → ConstantOk own e → (e ≡ Input → Fits own g) → All (λ r. isRead f r ≡ true → Fits (wantedKind own (r .wanted)) (found p v r)) (reads e) → Fits own (meaning e g f p v)
+unfolding rowOf rowFor reads
 meaning-fits own Input g f p v y c i h = i refl
 meaning-fits own (Constant k) g f p v y c i h = constant-fits own k c
 meaning-fits own (Not a) g f p v y c i h = a-bool (not (truth (v a))) y
@@ -54,7 +57,7 @@ meaning-fits own (Difference a b) g f p v y c i h = an-int _ y
 meaning-fits own (Multiple k a) g f p v y c i h = an-int _ y
 meaning-fits own (AtMost a b) g f p v y c i h = a-bool (leZ (v a) (v b)) y
 meaning-fits own (Equal a b) g f p v y c i h = a-bool (equals (v a) (v b)) y
-meaning-fits own (If a b c) g f p v y k i h = either-fits own (truth (v c)) (v a) (v b) (h .0 refl) (h .1 .0 refl)
+meaning-fits own (If c a b) g f p v y k i h = either-fits own (truth (v c)) (v a) (v b) (h .0 refl) (h .1 .0 refl)
 meaning-fits own (Arrow a b) g f p v y c i h = by-first (λ first. Fits own (meaning (Arrow a b) g first p v)) (search (h .0 refl, h .1 .0 refl)) f
 meaning-fits own (FollowedBy a b) g true p v y c i h = h .0 refl
 meaning-fits own (FollowedBy a b) g false p v y c i h = h .1 .0 refl

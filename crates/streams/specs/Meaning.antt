@@ -20,6 +20,6 @@ meaning (Difference a b) given first before now = now a -ℤ now b  -- 7: a − 
 meaning (Multiple k a) given first before now = k *ℤ now a  -- 8: K·a
 meaning (AtMost a b) given first before now = number (leZ (now a) (now b))  -- 9: a at most b
 meaning (Equal a b) given first before now = number (equals (now a) (now b))  -- 10: a equal to b
-meaning (If a b c) given first before now = cond (truth (now c)) (now a) (now b)  -- 11: if c then a else b
+meaning (If c a b) given first before now = cond (truth (now c)) (now a) (now b)  -- 11: if c then a else b
 meaning (Arrow a b) given first before now = cond first (now a) (now b)  -- 12: a at instant 0, later b
 meaning (FollowedBy a b) given first before now = cond first (now a) (before b)  -- 13: a at instant 0, later b one instant before

@@ -38,7 +38,11 @@ pub fn value(e: Equation, given: i64, first: bool, past: &[i64], present: &[i64]
         Equation::Multiple(k, a) => times(k as i64, present, a),
         Equation::AtMost(a, b) => at_most(present, a, b),
         Equation::Equal(a, b) => equal(present, a, b),
-        Equation::If(a, b, c) => chosen(present, a, b, c),
+        Equation::If {
+            condition,
+            then,
+            otherwise,
+        } => chosen(present, then, otherwise, condition),
         Equation::Arrow(a, b) => first_or_later(first, present, a, present, b),
         Equation::FollowedBy(a, b) => first_or_later(first, present, a, past, b),
     }

@@ -256,7 +256,7 @@ returns-12 c =
     rw (c .before .before .before .before .before .e11 .given .1)
     (c .if-then-else .ensures
     ∙ same-number (c .before .before .before .before .before .before .before .before .args .r)
-    (same4 (λ s a b d. over (c .before .before .before .before .before .before .before .before .args .kind) (If a b d) s) (c .before .before .before .before .before .before .before .var .ensures) (c .before .before .before .var18 .ensures) (c .before .before .var19 .ensures) (c .before .var20 .ensures)))
+    (same4 (λ s a b d. over (c .before .before .before .before .before .before .before .before .args .kind) (If d a b) s) (c .before .before .before .before .before .before .before .var .ensures) (c .before .before .before .var18 .ensures) (c .before .before .var19 .ensures) (c .before .var20 .ensures)))
 
 returns-13 : tie.Need-returns-13
 returns-13 c =

@@ -5,6 +5,7 @@ use lib.ListN.{List·getD-eq-default}
 use mir.Syntax.{w32}
 use mir.ValLaws.{toZ-ofZ}
 use Rattle.node.specs.Equations.{decoded, equations}
+use Rattle.node.specs.Table.{operators}
 use Rattle.answers.proofs.Entries.{rest-le}
 use Rattle.node.proofs.equation.decode.Statement.{statement}
 use Rattle.node.proofs.equation.decode.Tie as tie
@@ -67,7 +68,7 @@ returns-14 c = rw (c .match .keys14)
 
 returns-15 : tie.Need-returns-15
 unfolding decoded
-returns-15 c = sym (List·getD-eq-default (equations (c .before .args .r)) _ (rest-le 14 _ (c .match .rest)))
+returns-15 c = sym (List·getD-eq-default (equations (c .before .args .r)) _ (rest-le operators _ (c .match .rest)))
 
 pub decode-spec : {M : Type 1} → statement M
 decode-spec =

@@ -2,7 +2,7 @@
 -- Assumes nothing.
 use mathlib.Core.Path.{sym}
 use lib.ListN.{List·getD-eq-default}
-use Rattle.node.specs.Table.{rows, rowOf}
+use Rattle.node.specs.Table.{rows, operators, rowOf}
 use Rattle.answers.proofs.Entries.{rest-le}
 use Rattle.node.proofs.table.row_of.Statement.{statement}
 use Rattle.node.proofs.table.row_of.Tie as tie
@@ -65,7 +65,7 @@ returns-14 c = rw (c .match .keys14)
 
 returns-15 : tie.Need-returns-15
 unfolding rowOf
-returns-15 c = sym (List·getD-eq-default rows _ (rest-le 14 _ (c .match .rest)))
+returns-15 c = sym (List·getD-eq-default rows _ (rest-le operators _ (c .match .rest)))
 
 pub row-of-spec : {M : Type 1} → statement M
 row-of-spec =
