@@ -16,7 +16,7 @@ use Rattle.integers.proofs.Ring.{+ℤ-idl, +ℤ-idr, +ℤ-comm, +ℤ-assoc, *�
 use Rattle.integers.proofs.Abs.{abs-*ℤ, abs-negℤ, bound-add, bound-sub}
 use Rattle.constraints.specs.Layout.{Constraint, Line}
 use Rattle.constraints.specs.Linear.{Monomial, Form, Bounded, variable, coefficient, scaled, negated, written, boundedOf}
-use Rattle.rules.specs.Literals.{atomOf, isNegated, constraintNumber}
+use Rattle.literals.specs.Literals.{atomOf, isNegated, constraintNumber}
 use Rattle.rules.specs.Arithmetic.{sumOf}
 use Rattle.arithmetic.specs.Sums.{addAt, addForm, sumsOf, factorOf, oppositeBound}
 

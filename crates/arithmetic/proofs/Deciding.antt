@@ -13,7 +13,7 @@ use Rattle.answers.specs.Checks.{every}
 use Rattle.answers.proofs.Every.{every-all}
 use Rattle.answers.proofs.Tests.{both-true}
 use Rattle.constraints.specs.Layout.{Constraint, Line, lineHeadAt, literalAt}
-use Rattle.rules.specs.Literals.{atomOf, isConstraint}
+use Rattle.literals.specs.Literals.{atomOf, isConstraint}
 use Rattle.rules.specs.Limited.{Named}
 use Rattle.rules.specs.Arithmetic.{sumOf, arithmeticOk}
 use Rattle.arithmetic.specs.Sums.{sumsOf, termsZero}

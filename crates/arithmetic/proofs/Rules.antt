@@ -9,7 +9,8 @@ use lib.ListN.{length}
 use Rattle.constraints.specs.Layout.{trailerOf, startOf, constraintOf, lineHeadAt, literalAt, multiplierAt}
 use Rattle.constraints.specs.Ready.{Ready}
 use Rattle.constraints.specs.Rules.{Sorts}
-use Rattle.rules.specs.Literals.{atomOf, constraintNumber, namesAtom}
+use Rattle.literals.specs.Literals.{atomOf, constraintNumber}
+use Rattle.rules.specs.Literals.{namesAtom}
 use Rattle.rules.proofs.ConstraintLimits.{Few, limited, names-constraint}
 use Rattle.arithmetic.specs.Checkable.{Checkable}
 

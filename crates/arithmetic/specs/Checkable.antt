@@ -5,7 +5,7 @@ use mathlib.Core.List.{List}
 use mathlib.Core.Bool.{true}
 use lib.ListN.{length}
 use Rattle.constraints.specs.Layout.{constraintAt, lineHeadAt, literalAt, multiplierAt}
-use Rattle.rules.specs.Literals.{atomOf, isConstraint}
+use Rattle.literals.specs.Literals.{atomOf, isConstraint}
 use Rattle.rules.specs.Limited.{Limited}
 use Rattle.arithmetic.specs.Sums.{placeOf}
 

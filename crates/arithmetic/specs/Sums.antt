@@ -7,7 +7,7 @@ use lib.ListN.{getD, set, replicate}
 use Rattle.answers.specs.Checks.{every}
 use Rattle.constraints.specs.Layout.{Constraint, Line, constraintAt, literalAt}
 use Rattle.constraints.specs.Linear.{Form, variable, sameZ}
-use Rattle.rules.specs.Literals.{atomOf, isNegated, constraintNumber}
+use Rattle.literals.specs.Literals.{atomOf, isNegated, constraintNumber}
 use Rattle.rules.specs.Arithmetic.{sumOf}
 
 -- a number added at a variable

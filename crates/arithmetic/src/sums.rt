@@ -5,14 +5,13 @@ use crate::terms::bound_at;
 use crate::terms::factor_at;
 use crate::terms::place_of;
 use constraints::literal_at;
-use literals::Literal;
 ghost use Prim.Native.Nat.{ℕ, _+_, _<_, _≤_};
 ghost use mathlib.Core.Path.{_≡_};
 ghost use lib.IntN.{pos};
 ghost use lib.ListN.{length, replicate};
 ghost use Rattle.answers.specs.Checks.{every};
 ghost use Rattle.constraints.specs.Layout.{constraintAt, lineAt, literalAt};
-ghost use Rattle.rules.specs.Literals.{atomOf, isConstraint};
+ghost use Rattle.literals.specs.Literals.{atomOf, isConstraint};
 ghost use Rattle.rules.specs.Arithmetic.{sumOf};
 ghost use Rattle.arithmetic.specs.Sums.{constraintsFrom, placeOf, sumsOf, termsZero};
 ghost use Rattle.arithmetic.specs.Checkable.{Usable};
@@ -24,7 +23,7 @@ pub fn are_constraints(file: &[u8], at: usize, count: usize) -> bool
 {
     let mut j = 0;
     while j < count {
-        let literal = Literal(literal_at(file, at, j));
+        let literal = literal_at(file, at, j);
         if literal.atom() < 576 {
             return false;
         }

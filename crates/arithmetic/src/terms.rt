@@ -3,6 +3,7 @@ use constraints::constraint_head;
 use constraints::literal_at;
 use constraints::multiplier_at;
 use constraints::term_at;
+use constraints::var;
 use literals::Literal;
 ghost use Prim.Native.Nat.{ℕ, _+_, _<_, _≤_};
 ghost use mathlib.Core.Path.{_≡_};
@@ -27,7 +28,7 @@ fn variable_at(file: &[u8], at: usize, j: usize) -> usize
     ensures { λ r. ⌜ r ≡ variable (termAt (now (file .entry)) at j .offset) (termAt (now (file .entry)) at j .stream) ⌝ }
 {
     let term = term_at(file, at, j);
-    64 * (term.offset as usize) + (term.stream as usize)
+    var(term.offset, term.stream) as usize
 }
 
 // Its coefficient, times a factor.
@@ -45,7 +46,7 @@ pub fn place_of(file: &[u8], start: usize, at: usize, j: usize) -> usize
     requires { ⌜ Usable (now file) start at j ⌝ }
     ensures { λ r. ⌜ r ≡ placeOf (now (file .entry)) start at j ⌝ }
 {
-    let literal = Literal(literal_at(file, at, j));
+    let literal = literal_at(file, at, j);
     start + 80 * (literal.atom() - 576)
 }
 
@@ -54,7 +55,7 @@ pub fn factor_at(file: &[u8], at: usize, j: usize) -> i64
     requires { ⌜ (at + 80 ≤ length (now file)) × (j < 12) × (multiplierAt (now file) at j ≤ 1000000) ⌝ }
     ensures { λ r. ⌜ r ≡ factorOf (literalAt (now (file .entry)) at j) (multiplierAt (now (file .entry)) at j) ⌝ }
 {
-    let literal = Literal(literal_at(file, at, j));
+    let literal = literal_at(file, at, j);
     let multiplier = multiplier_at(file, at, j) as i64;
     if literal.sign() {
         multiplier
@@ -112,7 +113,7 @@ pub fn bound_at(file: &[u8], start: usize, at: usize, j: usize) -> i64
     requires { ⌜ Usable (now file) start at j ⌝ }
     ensures { λ r. ⌜ r ≡ pos (multiplierAt (now (file .entry)) at j) *ℤ oppositeBound (literalAt (now (file .entry)) at j) (headAt (now (file .entry)) (placeOf (now (file .entry)) start at j) .bound) ⌝ }
 {
-    let literal = Literal(literal_at(file, at, j));
+    let literal = literal_at(file, at, j);
     let head = constraint_head(file, place_of(file, start, at, j));
     let bound = opposite_bound(literal, head.bound);
     product(multiplier_at(file, at, j) as i64, bound)

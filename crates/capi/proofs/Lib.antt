@@ -1,5 +1,3 @@
 pub mod Demands
-pub mod Outcomes
-pub mod SameSessions
 pub mod Telling
 pub mod Zero

@@ -1,5 +1,4 @@
 pub mod Checking
 pub mod Constants
-pub mod Fours
 pub mod Ready
 pub mod Slots

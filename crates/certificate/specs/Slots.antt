@@ -3,7 +3,8 @@ use Prim.Native.Nat.{ℕ}
 use mathlib.Core.Bool.{Bool, _&&_, _||_}
 use lib.Dec.{ltb, eqb}
 use Rattle.constraints.specs.Rules.{Sorts}
-use Rattle.rules.specs.Literals.{atomOf, namesAtom}
+use Rattle.literals.specs.Literals.{atomOf}
+use Rattle.rules.specs.Literals.{namesAtom}
 use Rattle.rules.specs.Lines.{multiplierOk}
 
 -- a listed literal names an atom and has a multiplier of its line's kind

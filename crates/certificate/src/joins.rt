@@ -1,6 +1,6 @@
 // Rule 19: joins.
 use crate::search::covers;
-use crate::search::stands_in;
+use crate::search::stands_from;
 use constraints::line_head;
 use literals::Literal;
 ghost use Prim.Native.Nat.{_+_, _*_, _<_, _≤_};
@@ -10,24 +10,20 @@ ghost use Rattle.constraints.specs.Layout.{lineAt};
 ghost use Rattle.rules.specs.Joins.{joins, joinOk};
 ghost use Rattle.certificate.specs.Ready.{LinesReady, linesAt};
 
-// Literal r stands in the line at p and its opposite in the line at q, and what is left of both stands in the line at an offset:
-// there mostly first what is left of p, then what is left of q.
-fn is_join(file: &[u8], p: usize, q: usize, r: u16, at: usize) -> bool
+// Literal r stands in the line at p and its opposite in the line at q, and what is left of both stands in the line at an offset.
+fn is_join(file: &[u8], p: usize, q: usize, r: Literal, at: usize) -> bool
     requires { ⌜ (p + 80 ≤ length (now file)) × (q + 80 ≤ length (now file)) × (at + 80 ≤ length (now file)) ⌝ }
     requires { ⌜ (lineAt (now file) p .head .count ≤ 12) × (lineAt (now file) q .head .count ≤ 12) × (lineAt (now file) at .head .count ≤ 12) ⌝ }
-    ensures { λ z. ⌜ z ≡ joins (lineAt (now (file .entry)) p) (lineAt (now (file .entry)) q) r (lineAt (now (file .entry)) at) ⌝ }
+    ensures { λ z. ⌜ z ≡ joins (lineAt (now (file .entry)) p) (lineAt (now (file .entry)) q) (r .0) (lineAt (now (file .entry)) at) ⌝ }
 {
-    let opposite = Literal(r).opposite();
-    let s = opposite.0;
+    let s = r.opposite();
     let in_p = line_head(file, p).count as usize;
     let in_q = line_head(file, q).count as usize;
     let here = line_head(file, at).count as usize;
-    if !(stands_in(file, p, in_p, r) & stands_in(file, q, in_q, s)) {
+    if !(stands_from(file, p, in_p, r, 0) & stands_from(file, q, in_q, s, 0)) {
         return false;
     }
-    // All of p but r.
-    let left = in_p - 1;
-    covers(file, p, in_p, r, at, here, 0) & covers(file, q, in_q, s, at, here, left)
+    covers(file, p, in_p, r, at, here) & covers(file, q, in_q, s, at, here)
 }
 
 // Rule 19, of line i, where line 0 stands at an offset and the part begins at line `from`.
@@ -42,5 +38,11 @@ pub fn join_ok(file: &[u8], lines: usize, from: usize, i: usize) -> bool
     if !((from <= p) & (p < i) & ((from <= q) & (q < i))) {
         return false;
     }
-    is_join(file, lines + 80 * p, lines + 80 * q, head.r, at)
+    is_join(
+        file,
+        lines + 80 * p,
+        lines + 80 * q,
+        Literal(head.r as usize),
+        at,
+    )
 }

@@ -1,6 +1,8 @@
 // Rule 18: property lines.
 use constraints::line_head;
 use constraints::literal_at;
+use constraints::var;
+use literals::Literal;
 ghost use Prim.Native.Nat.{_+_, _<_, _≤_};
 ghost use mathlib.Core.Path.{_≡_};
 ghost use lib.ListN.{length};
@@ -15,8 +17,8 @@ fn are_not_property(file: &[u8], at: usize, k: usize, prop: u16) -> bool
 {
     let mut j = 0;
     while j < k {
-        let literal = literal_at(file, at, j) as usize;
-        if literal != 2 * (64 * j + (prop as usize)) + 1 {
+        let not_prop = Literal::negative(var(j as u8, prop));
+        if literal_at(file, at, j).0 != not_prop.0 {
             return false;
         }
         j += 1;
@@ -39,12 +41,14 @@ pub fn step_property_ok(file: &[u8], at: usize, k: u8, prop: u16) -> bool
     ensures { λ r. ⌜ r ≡ stepPropertyOk k prop (lineAt (now (file .entry)) at) ⌝ }
 {
     let h = line_head(file, at);
-    let q = h.q as usize;
-    let depth = k as usize;
-    let literal = literal_at(file, at, 0) as usize;
-    let atom = 64 * q + (prop as usize);
-    if q == depth {
-        return (q <= depth) & (h.count == 1) & (literal == 2 * atom + 1);
+    let depth = k as u16;
+    if depth < h.q {
+        return false;
     }
-    (q <= depth) & (h.count == 1) & (literal == 2 * atom)
+    let atom = var(h.q as u8, prop);
+    let literal = literal_at(file, at, 0);
+    if h.q == depth {
+        return (h.count == 1) & (literal.0 == Literal::negative(atom).0);
+    }
+    (h.count == 1) & (literal.0 == Literal::positive(atom).0)
 }

@@ -4,7 +4,6 @@ use constraints::line_head;
 use constraints::literal_at;
 use constraints::multiplier_at;
 use constraints::sort_at;
-use literals::Literal;
 ghost use Prim.Native.Nat.{_+_, _<_, _≤_};
 ghost use mathlib.Core.Path.{_≡_};
 ghost use lib.ListN.{length};
@@ -44,8 +43,7 @@ fn is_listed(file: &[u8], at: usize, kind: u8, sorts: &[u8], k: u8, m: u16, j: u
 {
     let literal = literal_at(file, at, j);
     let multiplier = multiplier_at(file, at, j);
-    let atom = Literal(literal).atom();
-    names_atom(sorts, k, m, atom) & is_multiplier(kind, multiplier)
+    names_atom(sorts, k, m, literal.atom()) & is_multiplier(kind, multiplier)
 }
 
 // Each of the literals and multipliers that are listed.
@@ -75,7 +73,7 @@ fn are_unused(file: &[u8], at: usize, count: usize) -> bool
     while j < 12 {
         let literal = literal_at(file, at, j);
         let multiplier = multiplier_at(file, at, j);
-        clear = clear & ((j < count) | ((literal == 0) & (multiplier == 0)));
+        clear = clear & ((j < count) | ((literal.0 == 0) & (multiplier == 0)));
         j += 1;
     }
     clear

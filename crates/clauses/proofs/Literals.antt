@@ -10,25 +10,8 @@ use Rattle.constraints.specs.Layout.{Constraint}
 use Rattle.constraints.specs.Linear.{sameContent, boundedOf as ofConstraint}
 use Rattle.rules.specs.declared.pattern.Linear.{Linear}
 use Rattle.rules.specs.Clauses.{boundedOf}
-use Rattle.rules.specs.Literals.{positive, negative, atomOf, isNegated, constraintNumber}
+use Rattle.literals.specs.Literals.{positive, negative, atomOf, isNegated, constraintNumber}
 use Rattle.rules.specs.Matching.{saysMost}
-
-module _ (l x : ℕ) where
-  positive-case : (t u : Bool) → eqb (l % 2) 1 ≡ t → eqb (l / 2) x ≡ u → (not t && u) ≡ eqb l (2 * x)
-  positive-case true u e f = sym (ne-eqb l (2 * x) (λ (p : l ≡ 2 * x). omega (arith, eqb-true (l % 2) 1 e)))
-  positive-case false true e f = sym (eq-eqb l (2 * x) (omega (arith, eqb-false (l % 2) 1 e, eqb-true (l / 2) x f)))
-  positive-case false false e f = sym (ne-eqb l (2 * x) (λ (p : l ≡ 2 * x). eqb-false (l / 2) x f (omega arith)))
-
-  pub positive-test : (not (isNegated l) && eqb (atomOf l) x) ≡ eqb l (positive x)
-  positive-test = positive-case (eqb (l % 2) 1) (eqb (l / 2) x) refl refl
-
-  negative-case : (t u : Bool) → eqb (l % 2) 1 ≡ t → eqb (l / 2) x ≡ u → (t && u) ≡ eqb l (2 * x + 1)
-  negative-case false u e f = sym (ne-eqb l (2 * x + 1) (λ (p : l ≡ 2 * x + 1). eqb-false (l % 2) 1 e (omega arith)))
-  negative-case true true e f = sym (eq-eqb l (2 * x + 1) (omega (arith, eqb-true (l % 2) 1 e, eqb-true (l / 2) x f)))
-  negative-case true false e f = sym (ne-eqb l (2 * x + 1) (λ (p : l ≡ 2 * x + 1). eqb-false (l / 2) x f (omega arith)))
-
-  pub negative-test : (isNegated l && eqb (atomOf l) x) ≡ eqb l (negative x)
-  negative-test = negative-case (eqb (l % 2) 1) (eqb (l / 2) x) refl refl
 
 module _ (constraint : ℕ → Constraint) (m : ℕ) (d : Linear) (l : ℕ) where
   pub not-negated : isNegated l ≡ true → saysMost constraint m d l ≡ false

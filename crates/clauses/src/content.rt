@@ -1,7 +1,7 @@
 // "constraints .. compared by content": a constraint of the file against one of a clause.
-use crate::window::var;
 use constraints::constraint_head;
 use constraints::term_at;
+use constraints::var;
 use rules::Linear;
 ghost use Prim.Native.Nat.{_+_, _<_, _≤_};
 ghost use mathlib.Core.Path.{_≡_};
@@ -13,14 +13,14 @@ ghost use Rattle.rules.specs.Clauses.{boundedOf};
 ghost use Rattle.clauses.specs.Content.{share, agree, Small};
 
 // What a term adds to the coefficient at x.
-fn share(of: usize, times: i64, x: usize) -> i64
+fn share(of: u32, times: i64, x: u32) -> i64
     ensures { λ r. ⌜ r ≡ share (record { of = of; times = times }) x ⌝ }
 {
     if of == x { times } else { 0 }
 }
 
 // What term j of the constraint at an offset adds.
-fn share_at(file: &[u8], at: usize, j: usize, x: usize) -> i64
+fn share_at(file: &[u8], at: usize, j: usize, x: u32) -> i64
     requires { ⌜ (at + 80 ≤ length (now file)) × (j < 8) ⌝ }
     ensures { λ r. ⌜ (r ≡ share (monomial (termAt (now (file .entry)) at j)) x) × (natAbs r ≤ 2147483648) ⌝ }
 {
@@ -29,7 +29,7 @@ fn share_at(file: &[u8], at: usize, j: usize, x: usize) -> i64
 }
 
 // The coefficient at x of the first count terms.
-fn coefficient_at(file: &[u8], at: usize, count: usize, x: usize) -> i64
+fn coefficient_at(file: &[u8], at: usize, count: usize, x: u32) -> i64
     requires { ⌜ (at + 80 ≤ length (now file)) × (count ≤ 8) ⌝ }
     ensures { λ r. ⌜ r ≡ coefficient (written (constraintAt (now (file .entry)) at) count) x ⌝ }
 {
@@ -42,7 +42,7 @@ fn coefficient_at(file: &[u8], at: usize, count: usize, x: usize) -> i64
     sum
 }
 
-fn coefficient_of(d: Linear, x: usize) -> i64
+fn coefficient_of(d: Linear, x: u32) -> i64
     requires { ⌜ Small d ⌝ }
     ensures { λ r. ⌜ r ≡ coefficient (boundedOf d .form) x ⌝ }
 {
@@ -56,7 +56,7 @@ fn same_number(l: i64, r: i64) -> bool
 }
 
 // Both have the same coefficient at x.
-fn do_agree(file: &[u8], at: usize, count: usize, d: Linear, x: usize) -> bool
+fn do_agree(file: &[u8], at: usize, count: usize, d: Linear, x: u32) -> bool
     requires { ⌜ (at + 80 ≤ length (now file)) × (count ≤ 8) × Small d ⌝ }
     ensures { λ z. ⌜ z ≡ agree (written (constraintAt (now (file .entry)) at) count) (boundedOf d .form) x ⌝ }
 {

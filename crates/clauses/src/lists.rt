@@ -8,7 +8,7 @@ ghost use mathlib.Core.List.{[], _∷_};
 ghost use Rattle.rules.specs.Clauses.{most, less, clause1, clause2, clause3, numbered};
 
 // "x ≤ y"
-pub fn most(x: usize, y: usize) -> Pattern
+pub fn most(x: u32, y: u32) -> Pattern
     ensures { λ p. ⌜ p ≡ most x y ⌝ }
 {
     Pattern::Most(Linear {
@@ -23,7 +23,7 @@ pub fn most(x: usize, y: usize) -> Pattern
 }
 
 // "x < y"
-pub fn less(x: usize, y: usize) -> Pattern
+pub fn less(x: u32, y: u32) -> Pattern
     ensures { λ p. ⌜ p ≡ less x y ⌝ }
 {
     Pattern::Most(Linear {

@@ -5,36 +5,18 @@ use rules::Linear;
 use rules::Pattern;
 ghost use Prim.Native.Nat.{_+_, _*_};
 ghost use mathlib.Core.Path.{_≡_};
-ghost use lib.Dec.{eqb};
 ghost use Rattle.constraints.specs.Layout.{constraintAt};
-ghost use Rattle.rules.specs.Literals.{positive, negative};
 ghost use Rattle.rules.specs.Matching.{saysMost, matchesOf};
 ghost use Rattle.clauses.specs.Content.{Small};
 ghost use Rattle.clauses.specs.Matching.{Readable, SmallPattern};
 
-// By its sign and atom, since twice an atom may not fit.
-fn is_yes(literal: u16, x: usize) -> bool
-    ensures { λ z. ⌜ z ≡ eqb literal (positive x) ⌝ }
-{
-    let l = Literal(literal);
-    !l.sign() & (l.atom() == x)
-}
-
-fn is_no(literal: u16, x: usize) -> bool
-    ensures { λ z. ⌜ z ≡ eqb literal (negative x) ⌝ }
-{
-    let l = Literal(literal);
-    l.sign() & (l.atom() == x)
-}
-
 // The literal is one of the m constraints from an offset on, unnegated, and that has the content of d.
-fn is_most(file: &[u8], start: usize, m: usize, d: Linear, literal: u16) -> bool
+fn is_most(file: &[u8], start: usize, m: usize, d: Linear, literal: Literal) -> bool
     requires { ⌜ Readable (now file) start m × Small d ⌝ }
-    ensures { λ z. ⌜ z ≡ saysMost (λ i. constraintAt (now (file .entry)) (start + 80 * i)) m d literal ⌝ }
+    ensures { λ z. ⌜ z ≡ saysMost (λ i. constraintAt (now (file .entry)) (start + 80 * i)) m d (literal .0) ⌝ }
 {
-    let l = Literal(literal);
-    let atom = l.atom();
-    if l.sign() {
+    let atom = literal.atom();
+    if literal.sign() {
         return false;
     }
     if atom < 576 {
@@ -48,13 +30,13 @@ fn is_most(file: &[u8], start: usize, m: usize, d: Linear, literal: u16) -> bool
 }
 
 // The literal matches the pattern, where the file's m constraints stand from an offset on.
-pub fn matches(file: &[u8], start: usize, m: usize, p: Pattern, literal: u16) -> bool
+pub fn matches(file: &[u8], start: usize, m: usize, p: Pattern, literal: Literal) -> bool
     requires { ⌜ Readable (now file) start m × SmallPattern p ⌝ }
-    ensures { λ z. ⌜ z ≡ matchesOf (λ i. constraintAt (now (file .entry)) (start + 80 * i)) m p literal ⌝ }
+    ensures { λ z. ⌜ z ≡ matchesOf (λ i. constraintAt (now (file .entry)) (start + 80 * i)) m p (literal .0) ⌝ }
 {
     match p {
-        Pattern::Yes(x) => is_yes(literal, x),
-        Pattern::No(x) => is_no(literal, x),
+        Pattern::Yes(x) => literal.0 == Literal::positive(x).0,
+        Pattern::No(x) => literal.0 == Literal::negative(x).0,
         Pattern::Most(d) => is_most(file, start, m, d, literal),
     }
 }

@@ -9,6 +9,7 @@ use crate::lists::one;
 use crate::lists::three;
 use crate::lists::two;
 use node::Kind;
+use rules::Clause;
 use rules::Linear;
 use rules::Named;
 use rules::Pattern;
@@ -17,7 +18,7 @@ ghost use lib.IntN.{negℤ};
 ghost use Rattle.node.specs.declared.equation.Kind.the-variants.{Bool as BoolKind, Int as IntKind};
 ghost use Rattle.node.specs.declared.equation.Equation.the-variants.{Constant, Not, And, Or, Same, Multiple, AtMost, Equal, If};
 ghost use Rattle.rules.specs.Clauses.{equalTo, sameAs, numbered};
-ghost use Rattle.clauses.specs.Operators.{over};
+ghost use Rattle.clauses.specs.Operators.{over, guardedNamed, Has, Short};
 
 // A constant, and its negation, in 64 bits.
 fn wide(k: i32) -> i64
@@ -33,7 +34,7 @@ fn minus(k: i32) -> i64
 }
 
 // "{s ≤ e} {e ≤ s}", with e = a·x + b·y + k
-pub fn equal_to(s: usize, a: i32, x: usize, b: i32, y: usize, k: i32, r: u16) -> Named
+pub fn equal_to(s: u32, a: i32, x: u32, b: i32, y: u32, k: i32, r: u16) -> Named
     ensures { λ z. ⌜ z ≡ numbered (equalTo s a x b y k) r ⌝ }
 {
     let upper = Linear {
@@ -58,7 +59,7 @@ pub fn equal_to(s: usize, a: i32, x: usize, b: i32, y: usize, k: i32, r: u16) ->
 }
 
 // "{!s, t} {s, !t} or {s ≤ t} {t ≤ s}"
-pub fn same_as(kind: Kind, s: usize, t: usize, r: u16) -> Named
+pub fn same_as(kind: Kind, s: u32, t: u32, r: u16) -> Named
     ensures { λ z. ⌜ z ≡ numbered (sameAs kind s t) r ⌝ }
 {
     match kind {
@@ -72,7 +73,7 @@ pub fn same_as(kind: Kind, s: usize, t: usize, r: u16) -> Named
 }
 
 // Operator 1.
-pub fn constant(kind: Kind, s: usize, k: i32, r: u16) -> Named
+pub fn constant(kind: Kind, s: u32, k: i32, r: u16) -> Named
     ensures { λ z. ⌜ z ≡ numbered (over kind (Constant k) s) r ⌝ }
 {
     match kind {
@@ -86,7 +87,7 @@ pub fn constant(kind: Kind, s: usize, k: i32, r: u16) -> Named
 }
 
 // Operator 2.
-pub fn not(s: usize, a: usize, r: u16) -> Named
+pub fn not(s: u32, a: u32, r: u16) -> Named
     ensures { λ z. ⌜ z ≡ numbered (over BoolKind (Not a) s) r ⌝ }
 {
     of_two(
@@ -97,7 +98,7 @@ pub fn not(s: usize, a: usize, r: u16) -> Named
 }
 
 // Operator 3.
-pub fn and(s: usize, a: usize, b: usize, r: u16) -> Named
+pub fn and(s: u32, a: u32, b: u32, r: u16) -> Named
     ensures { λ z. ⌜ z ≡ numbered (over BoolKind (And a b) s) r ⌝ }
 {
     of_three(
@@ -109,7 +110,7 @@ pub fn and(s: usize, a: usize, b: usize, r: u16) -> Named
 }
 
 // Operator 4.
-pub fn or(s: usize, a: usize, b: usize, r: u16) -> Named
+pub fn or(s: u32, a: u32, b: u32, r: u16) -> Named
     ensures { λ z. ⌜ z ≡ numbered (over BoolKind (Or a b) s) r ⌝ }
 {
     of_three(
@@ -121,7 +122,7 @@ pub fn or(s: usize, a: usize, b: usize, r: u16) -> Named
 }
 
 // Operator 5.
-pub fn same(s: usize, a: usize, b: usize, r: u16) -> Named
+pub fn same(s: u32, a: u32, b: u32, r: u16) -> Named
     ensures { λ z. ⌜ z ≡ numbered (over BoolKind (Same a b) s) r ⌝ }
 {
     of_four(
@@ -134,14 +135,14 @@ pub fn same(s: usize, a: usize, b: usize, r: u16) -> Named
 }
 
 // Operator 8.
-pub fn multiple(s: usize, k: i32, a: usize, r: u16) -> Named
+pub fn multiple(s: u32, k: i32, a: u32, r: u16) -> Named
     ensures { λ z. ⌜ z ≡ numbered (over IntKind (Multiple k a) s) r ⌝ }
 {
     equal_to(s, k, a, 0, a, 0, r)
 }
 
 // Operator 9.
-pub fn at_most(s: usize, a: usize, b: usize, r: u16) -> Named
+pub fn at_most(s: u32, a: u32, b: u32, r: u16) -> Named
     ensures { λ z. ⌜ z ≡ numbered (over BoolKind (AtMost a b) s) r ⌝ }
 {
     of_two(
@@ -152,7 +153,7 @@ pub fn at_most(s: usize, a: usize, b: usize, r: u16) -> Named
 }
 
 // Operator 10.
-pub fn equal(s: usize, a: usize, b: usize, r: u16) -> Named
+pub fn equal(s: u32, a: u32, b: u32, r: u16) -> Named
     ensures { λ z. ⌜ z ≡ numbered (over BoolKind (Equal a b) s) r ⌝ }
 {
     of_three(
@@ -163,24 +164,33 @@ pub fn equal(s: usize, a: usize, b: usize, r: u16) -> Named
     )
 }
 
-// Operator 11.
-pub fn if_then_else(kind: Kind, s: usize, a: usize, b: usize, c: usize, r: u16) -> Named
+// Clause r of a list, with a literal put in front.
+fn guarded(p: Pattern, clause: Named) -> Named
+    requires { ⌜ Has Short clause ⌝ }
+    ensures { λ z. ⌜ z ≡ guardedNamed p clause ⌝ }
+{
+    match clause {
+        Named::Is(c) => {
+            let first = c.first;
+            let second = c.second;
+            Named::Is(Clause {
+                count: c.count + 1,
+                first: p,
+                second: first,
+                third: second,
+            })
+        }
+        Named::Missing => Named::Missing,
+    }
+}
+
+// Operator 11: two clauses of each branch.
+pub fn if_then_else(kind: Kind, s: u32, a: u32, b: u32, c: u32, r: u16) -> Named
     ensures { λ z. ⌜ z ≡ numbered (over kind (If a b c) s) r ⌝ }
 {
-    match kind {
-        Kind::Bool => of_four(
-            three(Pattern::No(c), Pattern::No(s), Pattern::Yes(a)),
-            three(Pattern::No(c), Pattern::Yes(s), Pattern::No(a)),
-            three(Pattern::Yes(c), Pattern::No(s), Pattern::Yes(b)),
-            three(Pattern::Yes(c), Pattern::Yes(s), Pattern::No(b)),
-            r,
-        ),
-        Kind::Int => of_four(
-            two(Pattern::No(c), most(s, a)),
-            two(Pattern::No(c), most(a, s)),
-            two(Pattern::Yes(c), most(s, b)),
-            two(Pattern::Yes(c), most(b, s)),
-            r,
-        ),
+    if r < 2 {
+        guarded(Pattern::No(c), same_as(kind, s, a, r))
+    } else {
+        guarded(Pattern::Yes(c), same_as(kind, s, b, r - 2))
     }
 }

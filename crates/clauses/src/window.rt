@@ -10,37 +10,30 @@ use crate::operators::not;
 use crate::operators::or;
 use crate::operators::same;
 use crate::operators::same_as;
+use constraints::var;
 use node::Equation;
 use node::Kind;
 use rules::Named;
 use rules::Place;
 ghost use Prim.Native.Nat.{_-_};
 ghost use mathlib.Core.Path.{_≡_};
-ghost use Rattle.node.specs.declared.equation.Equation.the-variants.{Arrow};
 ghost use Rattle.constraints.specs.Linear.{variable};
-ghost use Rattle.rules.specs.Clauses.{clauses, numbered};
-
-// Stream x at an offset, as one number.
-pub fn var(offset: u8, x: u16) -> usize
-    ensures { λ v. ⌜ v ≡ variable offset x ⌝ }
-{
-    64 * (offset as usize) + (x as usize)
-}
+ghost use Rattle.rules.specs.Clauses.{firstThen, clauses, numbered};
 
 // Stream x at one offset lower.
-fn back(offset: u8, x: u16) -> usize
+fn back(offset: u8, x: u16) -> u32
     ensures { λ v. ⌜ v ≡ variable (offset - 1) x ⌝ }
 {
     if offset == 0 {
-        x as usize
+        x as u32
     } else {
         var(offset - 1, x)
     }
 }
 
 // Operators 12 and 13: at the window's start the first operand, or no clause where that may be any instant; later the second.
-fn later(kind: Kind, place: Place, s: usize, first: usize, second: usize, r: u16) -> Named
-    ensures { λ z. ⌜ z ≡ numbered (clauses kind (Arrow first second) place (λ x. x) (λ x. x) s) r ⌝ }
+fn later(kind: Kind, place: Place, s: u32, first: u32, second: u32, r: u16) -> Named
+    ensures { λ z. ⌜ z ≡ numbered (firstThen kind place s first second) r ⌝ }
 {
     match place {
         Place::Opening => same_as(kind, s, first, r),

@@ -5,6 +5,7 @@ use crate::bytes::u64_at;
 use crate::bytes::zeros_at;
 use fields::i32_of;
 use fields::i64_of;
+use literals::Literal;
 ghost use Prim.Native.Nat.{_+_, _<_, _≤_};
 ghost use mathlib.Core.Path.{_≡_};
 ghost use lib.ListN.{length};
@@ -104,11 +105,11 @@ pub fn line_head(file: &[u8], at: usize) -> LineHead
 }
 
 // Literal j, 0 to 11.
-pub fn literal_at(file: &[u8], at: usize, j: usize) -> u16
+pub fn literal_at(file: &[u8], at: usize, j: usize) -> Literal
     requires { ⌜ (at + 80 ≤ length (now file)) × (j < 12) ⌝ }
-    ensures { λ r. ⌜ r ≡ literalAt (now (file .entry)) at j ⌝ }
+    ensures { λ r. ⌜ r .0 ≡ literalAt (now (file .entry)) at j ⌝ }
 {
-    u16_at(file, at + 8 + 2 * j)
+    Literal(u16_at(file, at + 8 + 2 * j) as usize)
 }
 
 // Multiplier j, 0 to 11.

@@ -3,6 +3,7 @@ mod bytes;
 mod layout;
 mod rules;
 mod search;
+mod variables;
 
 pub use layout::ConstraintHead;
 pub use layout::LineHead;
@@ -20,3 +21,4 @@ pub use rules::distance_ok;
 pub use rules::fixed_ok;
 pub use rules::sort_at;
 pub use search::first_bad;
+pub use variables::var;

@@ -6,6 +6,7 @@ mod file_note;
 mod inputs;
 mod layout;
 mod reading;
+mod refusals;
 mod rules;
 mod table;
 

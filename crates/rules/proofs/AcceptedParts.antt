@@ -9,7 +9,7 @@ use native.Mathlib.Omega.{arith}
 use Rattle.node.specs.Layout.{propertyOf}
 use Rattle.streams.specs.Nodes.{nodeOf}
 use Rattle.constraints.specs.Layout.{Line, trailerOf, constraintOf, lineOf}
-use Rattle.rules.specs.Literals.{atomOf, constraintNumber}
+use Rattle.literals.specs.Literals.{atomOf, constraintNumber}
 use Rattle.rules.specs.Joins.{joinOk}
 use Rattle.rules.specs.Lines.{Window, hasEmpty}
 use Rattle.rules.specs.Outcome.{CertificateRules}

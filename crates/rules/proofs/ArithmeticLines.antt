@@ -11,7 +11,7 @@ use Rattle.integers.proofs.Order.{leZ-true}
 use Rattle.constraints.specs.Layout.{Constraint, Line}
 use Rattle.constraints.specs.Linear.{Bounded, total, negated, boundedOf}
 use Rattle.constraints.proofs.Negations.{negation-opposite}
-use Rattle.rules.specs.Literals.{atomOf, isNegated, isConstraint, constraintNumber}
+use Rattle.literals.specs.Literals.{atomOf, isNegated, isConstraint, constraintNumber}
 use Rattle.rules.specs.Arithmetic.{oppositeSays, arithmeticOk}
 use Rattle.rules.specs.Limited.{Named}
 use Rattle.rules.specs.Satisfaction.{Valuation, isBounded, atomTrue, literalTrue, Satisfies}

@@ -17,7 +17,8 @@ use Rattle.constraints.specs.declared.layout.Term.{Term}
 use Rattle.constraints.specs.Layout.{Constraint}
 use Rattle.constraints.specs.Linear.{variable}
 use Rattle.constraints.specs.Rules.{Sorts, between, boundLimit, coefficientLimit, usedOk, rises, termOk, constraintOk}
-use Rattle.rules.specs.Literals.{isConstraint, constraintNumber, namesAtom}
+use Rattle.literals.specs.Literals.{isConstraint, constraintNumber}
+use Rattle.rules.specs.Literals.{namesAtom}
 use Rattle.rules.specs.Limited.{Limited}
 
 -- a number between two limits of one magnitude

@@ -16,7 +16,7 @@ use Rattle.answers.proofs.Tests.{both-true}
 use Rattle.constraints.specs.Layout.{Constraint, Line}
 use Rattle.constraints.specs.Linear.{Bounded, coefficient, total, scaled, negated, written, boundedOf, sameZ}
 use Rattle.constraints.proofs.Totals.{total-append, total-scaled, Below, below-append, below-scaled, vanishes}
-use Rattle.rules.specs.Literals.{atomOf, isNegated, isConstraint, constraintNumber}
+use Rattle.literals.specs.Literals.{atomOf, isNegated, isConstraint, constraintNumber}
 use Rattle.rules.specs.Arithmetic.{oppositeSays, sumOf, arithmeticOk}
 use Rattle.rules.specs.Limited.{Named}
 use Rattle.rules.proofs.Contents.{same-means}

@@ -11,7 +11,7 @@ use lib.Dec.{eqb}
 use Rattle.answers.proofs.Every.{every-all}
 use Rattle.answers.proofs.Tests.{both-true, either-true}
 use Rattle.constraints.specs.Layout.{Constraint, Line}
-use Rattle.rules.specs.Literals.{oppositeOf}
+use Rattle.literals.specs.Literals.{oppositeOf}
 use Rattle.rules.specs.Joins.{standsFrom, standsIn, coveredBy, covered, joins}
 use Rattle.rules.specs.Satisfaction.{Valuation, literalTrue, Satisfies}
 use Rattle.rules.proofs.Literals.{opposite-true}

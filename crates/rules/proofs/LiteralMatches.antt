@@ -16,7 +16,7 @@ use Rattle.rules.specs.declared.pattern.Linear.{Linear}
 use Rattle.rules.specs.declared.pattern.Pattern.{Pattern}
 use Rattle.rules.specs.declared.pattern.Pattern.the-variants.{Yes, No, Most}
 use Rattle.rules.specs.Clauses.{boundedOf}
-use Rattle.rules.specs.Literals.{positive, negative, atomOf, isNegated, isConstraint, constraintNumber}
+use Rattle.literals.specs.Literals.{positive, negative, atomOf, isNegated, isConstraint, constraintNumber}
 use Rattle.rules.specs.Matching.{saysMost, matchesOf}
 use Rattle.rules.specs.Satisfaction.{Valuation, isBounded, atomTrue, literalTrue, patternTrue}
 use Rattle.rules.proofs.Contents.{same-content-means}

@@ -7,7 +7,7 @@ use native.Mathlib.Omega.{arith}
 use borrow.Author.Tests.{eqb-true, eqb-false, eq-eqb, ne-eqb, lt-leb}
 use Rattle.streams.specs.Values.{truth}
 use Rattle.constraints.specs.Layout.{Constraint}
-use Rattle.rules.specs.Literals.{positive, negative, atomOf, isNegated, oppositeOf}
+use Rattle.literals.specs.Literals.{positive, negative, atomOf, isNegated, oppositeOf}
 use Rattle.rules.specs.Satisfaction.{Valuation, atomTrue, literalTrue}
 
 -- ---- the opposite has the same atom and the other sign

@@ -13,7 +13,7 @@ use Rattle.answers.proofs.Tests.{both-true}
 use Rattle.streams.specs.Values.{truth}
 use Rattle.constraints.specs.Layout.{Constraint, Line}
 use Rattle.constraints.specs.Linear.{variable}
-use Rattle.rules.specs.Literals.{positive, negative}
+use Rattle.literals.specs.Literals.{positive, negative}
 use Rattle.rules.specs.Lines.{notPropertyAt, basePropertyOk, stepPropertyOk}
 use Rattle.rules.specs.Satisfaction.{Valuation, literalTrue, Satisfies}
 use Rattle.rules.proofs.Literals.{negative-true, positive-true}

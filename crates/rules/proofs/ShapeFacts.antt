@@ -11,7 +11,8 @@ use Rattle.answers.proofs.Every.{every-all}
 use Rattle.answers.proofs.Tests.{both-true}
 use Rattle.constraints.specs.Layout.{Line}
 use Rattle.constraints.specs.Rules.{Sorts}
-use Rattle.rules.specs.Literals.{atomOf, namesAtom}
+use Rattle.literals.specs.Literals.{atomOf}
+use Rattle.rules.specs.Literals.{namesAtom}
 use Rattle.rules.specs.Lines.{multiplierOk, slotOk, numbersOk, shapeOk}
 
 multiplier-small : (kind m : ℕ) → multiplierOk kind m ≡ true → m ≤ 1000000

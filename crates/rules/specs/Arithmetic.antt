@@ -9,7 +9,7 @@ use lib.Signed.{leZ}
 use Rattle.answers.specs.Checks.{every}
 use Rattle.constraints.specs.Layout.{Constraint, Line}
 use Rattle.constraints.specs.Linear.{Bounded, coefficient, scaled, negated, boundedOf, sameZ}
-use Rattle.rules.specs.Literals.{atomOf, isNegated, isConstraint, constraintNumber}
+use Rattle.literals.specs.Literals.{atomOf, isNegated, isConstraint, constraintNumber}
 
 -- what the opposite of a literal on a constraint says: the constraint where the literal is negated, else its negation
 abbrev pub oppositeSays : (ℕ → Constraint) → (literal : ℕ) → Bounded

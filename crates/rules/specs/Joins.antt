@@ -5,7 +5,7 @@ use mathlib.Core.Bool.{Bool, false, _&&_, _||_}
 use lib.Dec.{leb, ltb, eqb}
 use Rattle.answers.specs.Checks.{every}
 use Rattle.constraints.specs.Layout.{Line}
-use Rattle.rules.specs.Literals.{oppositeOf}
+use Rattle.literals.specs.Literals.{oppositeOf}
 
 -- the search for a literal among those from j on: "written as a function calling itself on the rest"
 unfoldable pub standsFrom : (ℕ → ℕ) → (l j left : ℕ) → Bool

@@ -15,7 +15,8 @@ use Rattle.rules.specs.declared.pattern.Named.the-variants.{Is, Missing}
 use Rattle.rules.specs.declared.pattern.Place.{Place}
 use Rattle.rules.specs.declared.pattern.Place.the-variants.{Opening, Unsure, Inner}
 use Rattle.rules.specs.Clauses.{clauses, numbered}
-use Rattle.rules.specs.Literals.{positive, negative, atomOf, namesAtom}
+use Rattle.literals.specs.Literals.{positive, negative, atomOf}
+use Rattle.rules.specs.Literals.{namesAtom}
 use Rattle.rules.specs.Matching.{matchesOf}
 use Rattle.rules.specs.Arithmetic.{arithmeticOk}
 use Rattle.rules.specs.Joins.{joinOk}

@@ -9,7 +9,7 @@ use Rattle.rules.specs.declared.pattern.Linear.{Linear}
 use Rattle.rules.specs.declared.pattern.Pattern.{Pattern}
 use Rattle.rules.specs.declared.pattern.Pattern.the-variants.{Yes, No, Most}
 use Rattle.rules.specs.Clauses.{boundedOf}
-use Rattle.rules.specs.Literals.{positive, negative, atomOf, isNegated, isConstraint, constraintNumber}
+use Rattle.literals.specs.Literals.{positive, negative, atomOf, isNegated, isConstraint, constraintNumber}
 
 -- the literal is one of the m constraints, unnegated, and that has the content of d
 unfoldable pub saysMost : (ℕ → Constraint) → (m : ℕ) → Linear → (literal : ℕ) → Bool

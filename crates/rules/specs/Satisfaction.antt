@@ -12,7 +12,7 @@ use Rattle.rules.specs.declared.pattern.Clause.{Clause}
 use Rattle.rules.specs.declared.pattern.Pattern.{Pattern}
 use Rattle.rules.specs.declared.pattern.Pattern.the-variants.{Yes, No, Most}
 use Rattle.rules.specs.Clauses.{boundedOf}
-use Rattle.rules.specs.Literals.{atomOf, isNegated, isConstraint, constraintNumber}
+use Rattle.literals.specs.Literals.{atomOf, isNegated, isConstraint, constraintNumber}
 
 -- the values of a window: one whole number a variable, 64·offset + stream
 abbrev pub Valuation : Type 0

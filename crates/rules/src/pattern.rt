@@ -2,11 +2,11 @@
 
 // A linear constraint of at most three variables: a·x + b·y + c·z is at most bound.
 pub struct Linear {
-    pub x: usize,
+    pub x: u32,
     pub a: i64,
-    pub y: usize,
+    pub y: u32,
     pub b: i64,
-    pub z: usize,
+    pub z: u32,
     pub c: i64,
     pub bound: i64,
 }
@@ -14,9 +14,9 @@ pub struct Linear {
 // One literal of a clause.
 pub enum Pattern {
     // A bool variable.
-    Yes(usize),
+    Yes(u32),
     // Its negation.
-    No(usize),
+    No(u32),
     // A constraint, unnegated.
     Most(Linear),
 }

@@ -1,48 +1,41 @@
--- The answer to a call where a session stands: 30 passes, 31 to 33 ask that the call be right, and 34 searches the solution's
--- values.
+-- The answer to a call where a session stands: 30 passes, 31 to 33 ask of the record what they ask of the file, and 34 searches the
+-- solution's values.
 -- Assumes nothing.
-use mathlib.Core.Path.{_≡_, refl, sym, _∙_, ap, ap₂}
-use mathlib.Core.Logic.{_↔_}
-use mathlib.Core.Bool.{Bool, true, false, true≢false}
+use mathlib.Core.Path.{_≡_, refl, _∙_, ap, ap₂}
+use mathlib.Core.Bool.{Bool, true, false}
 use mathlib.Core.List.{List}
 use Prim.Native.Nat.{ℕ, zero, suc, _<_}
 use native.Mathlib.Nat.{lt-suc-self}
 use native.Mathlib.Omega.{arith}
-use borrow.Author.Tests.{eqb-true, eq-eqb}
+use borrow.Author.Tests.{eqb-true}
 use lib.Dec.{eqb}
-use lib.IntN.{ℤ}
 use lib.ListN.{length}
 use Rattle.integers.specs.Range.{inside}
 use Rattle.answers.specs.declared.Found.{Found}
 use Rattle.answers.specs.declared.Found.the-variants.{At, Nothing}
-use Rattle.answers.specs.declared.Place.{Place}
 use Rattle.answers.specs.declared.Place.the-variants.{File, Record as AtRecord}
-use Rattle.answers.specs.Answer.{Answer, accepted, refused, NodeValues, isAccepted}
-use Rattle.answers.specs.Checks.{check, checkAll, lowest, Lowest}
+use Rattle.answers.specs.Answer.{Answer, accepted, NodeValues}
+use Rattle.answers.specs.Checks.{check, checkAll, lowest}
 use Rattle.answers.proofs.InARow.{by-check, by-check-all}
-use Rattle.answers.proofs.Lowest.{none, all, first, found}
+use Rattle.answers.proofs.Lowest.{all}
+use Rattle.node.specs.Equations.{kindAt}
 use Rattle.node.specs.Inputs.{inputCount}
 use Rattle.node.specs.Layout.{streamsOf}
 use Rattle.node.specs.Verdict.{verdictOf}
-use Rattle.streams.specs.Nodes.{Node}
+use Rattle.streams.specs.Nodes.{Node, nodeOf}
 use Rattle.streams.specs.Solutions.{Streams}
+use Rattle.streams.specs.Typing.{TypedInstant, given}
+use Rattle.streams.specs.Values.{Values, valuesIn}
+use Rattle.streams.proofs.InputNumbers.{operator-0}
+use Rattle.streams.proofs.Numbers.{fits-test}
 use Rattle.session.specs.declared.Session.{Session}
-use Rattle.session.specs.Instants.{inputFits, valueFits, answerOf}
+use Rattle.session.specs.Instants.{inputFits, workedOut, valueInside, answerOf}
 use Rattle.session.specs.Lists.{Call, Answered, answerTo}
 use Rattle.session.specs.Records.{held}
-use Rattle.session.specs.Theorems.{Right, Judged}
-use Rattle.session.proofs.InputTests.{typed-passes, passes-typed}
+use Rattle.session.specs.Theorems.{Judged, inputTyped, answerGiven}
+use Rattle.session.proofs.Answering.{not-answered}
 use Rattle.session.proofs.Nodes.{input-fits-same}
 use Rattle.session.proofs.Standing.{Standing, held-node, holds-node, worked-out-is}
-
--- ---- any answers
-
-pub refused-accepted : (number : ℕ) (place : Place) → _≡_ {A = Answer (Unit {0})} (refused number place) (accepted tt) → ⊥
-refused-accepted number place e = true≢false (sym (ap isAccepted e))
-
-abbrev numberIn : Answer (Unit {0}) → ℕ
-numberIn (accepted a) = 0
-numberIn (refused number place) = number
 
 -- tests that agree below n have the same lowest failure
 lowest-same : (f g : ℕ → Bool) (n : ℕ) → ((k : ℕ) → k < n → f k ≡ g k) → lowest f n ≡ lowest g n
@@ -50,93 +43,61 @@ unfolding lowest
 lowest-same f g zero h = refl
 lowest-same f g (suc n) h = rw (lowest-same f g n (λ k l. h k (omega arith)), h n (lt-suc-self n))
 
--- ---- the search of 34 alone
+-- 31 to 34 in order
+abbrev inOrder : (count room : Bool) → (input value : Found) → Answer (Unit {0})
+inOrder count room input value =
+    check count 31 File (check room 32 File (checkAll input 33 AtRecord (checkAll value 34 AtRecord (accepted tt))))
 
-abbrev searched : Found → Answer (Unit {0})
-searched f = checkAll f 34 AtRecord (accepted tt)
+-- 34 is met where 31 and 33 pass
+same-order : (count room : Bool) (input value other : Found) → (count ≡ true → input ≡ Nothing → value ≡ other) → inOrder count room input value ≡ inOrder count room input other
+same-order false room input value other h = refl
+same-order true false input value other h = refl
+same-order true true (At i) value other h = refl
+same-order true true Nothing value other h = ap (inOrder true true Nothing) (h refl refl)
 
-searched-accepted : (f : Found) → searched f ≡ accepted tt → f ≡ Nothing
-searched-accepted (At i) e = absurd (refused-accepted 34 (AtRecord i) e)
-searched-accepted Nothing e = refl
+module _ (file : List ℕ) {node : NodeValues} (e : verdictOf file ≡ accepted node) (c : Call) where
+  -- inputs that pass 31 and 33 are typed
+  typed : eqb (length (c .inputs)) (inputCount file) ≡ true → lowest (inputTyped file (c .inputs)) (streamsOf file) ≡ Nothing → TypedInstant (nodeOf file) (c .inputs)
+  typed count input =
+      record {
+        count = eqb-true _ _ count;
+        fits = λ i l is.
+            fits-test (kindAt file i) (given (nodeOf file) (c .inputs) i) .0
+            (rw (operator-0 file e i l is) at (all (inputTyped file (c .inputs)) (streamsOf file) input i l));
+      }
 
-searched-refused : (f : Found) (i : ℕ) → searched f ≡ refused 34 (AtRecord i) → f ≡ At i
-searched-refused (At k) i e = cc
-searched-refused Nothing i e = absurd (refused-accepted 34 (AtRecord i) (sym e))
+  -- so the values matter where the inputs are typed
+  same-answer : (values others : Values) → (TypedInstant (nodeOf file) (c .inputs) → (i : ℕ) → i < streamsOf file → values i ≡ others i) → answerGiven file c values ≡ answerGiven file c others
+  same-answer values others same =
+      same-order (eqb (length (c .inputs)) (inputCount file)) (eqb (length (c .slice)) (streamsOf file)) (lowest (inputTyped file (c .inputs)) (streamsOf file)) _ _
+      (λ count input.
+      lowest-same (λ i. inside (values i)) (λ i. inside (others i)) (streamsOf file) (λ i l. ap inside (same (typed count input) i l)))
 
-module _ (ok : ℕ → Bool) (n : ℕ) where
-  search-accepted : (searched (lowest ok n) ≡ accepted tt) ↔ ((i : ℕ) → i < n → ok i ≡ true)
-  search-accepted = (λ e. all ok n (searched-accepted (lowest ok n) e), λ h. ap searched (none ok n h))
+  given-typed : (values : Values) → answerGiven file c values ≡ accepted tt → TypedInstant (nodeOf file) (c .inputs)
+  given-typed values =
+      let P : Answer (Unit {0}) → Type 0 = λ a. a ≡ accepted tt → TypedInstant (nodeOf file) (c .inputs) in
+      by-check P (eqb (length (c .inputs)) (inputCount file)) 31 File _ (λ f. not-answered) λ count.
+      by-check P (eqb (length (c .slice)) (streamsOf file)) 32 File _ (λ f. not-answered) λ room.
+      by-check-all P (lowest (inputTyped file (c .inputs)) (streamsOf file)) 33 AtRecord _ (λ i f. not-answered) λ input.
+      λ a. typed count input
 
-  search-refused : (i : ℕ) → (searched (lowest ok n) ≡ refused 34 (AtRecord i)) ↔ Lowest ok n i
-  search-refused i = (
-    λ e. first ok n i (searched-refused (lowest ok n) i e),
-    λ l. ap searched (found ok n i (l .below) (l .before) (l .fails)),
-  )
+  module _ (done : List Answered) (s : Session) (stands : Standing file done s) where
+    -- the answer is the one for the values worked out
+    answer-is : answerTo s c ≡ answerGiven file c (valuesIn (workedOut s (c .inputs)))
+    unfolding answerOf inputFits
+    answer-is =
+        let value = lowest (valueInside (workedOut s (c .inputs))) in
+        ap (λ (b : Bool). check b 30 File (inOrder (eqb (length (c .inputs)) (inputCount (held s))) (eqb (length (c .slice)) (streamsOf (held s))) (lowest (inputFits (held s) (c .inputs)) (streamsOf (held s))) (value (streamsOf (held s))))) (holds-node file e done s stands)
+        ∙ ap₂ (λ (n : Node) (fit : ℕ → Bool). inOrder (eqb (length (c .inputs)) (n .inputs)) (eqb (length (c .slice)) (n .streams)) (lowest fit (n .streams)) (value (n .streams)))
+        (held-node file e done s stands)
+        (ap (λ (f : List ℕ). inputFits f (c .inputs)) (stands .holds) ∙ input-fits-same file e (c .inputs))
 
--- ---- 31 to 34 in order
+    -- .. which are those of the solution
+    pub answer-given : (v : Streams) → (TypedInstant (nodeOf file) (c .inputs) → Judged file done c v) → answerTo s c ≡ answerGiven file c (v (length done))
+    answer-given v judged =
+        answer-is
+        ∙ same-answer (valuesIn (workedOut s (c .inputs))) (v (length done))
+        (λ typed. let j = judged typed in worked-out-is file e done s stands (c .inputs) (j .0 .inputs) (j .0 .starts) (j .1) v (j .0 .solves))
 
-abbrev inOrder : (inputs : List ℤ) → (room count n : ℕ) → (fit ok : ℕ → Bool) → Answer (Unit {0})
-inOrder inputs room count n fit ok =
-    check (eqb (length inputs) count) 31 File
-    (check (eqb room n) 32 File
-    (checkAll (lowest fit n) 33 AtRecord
-    (searched (lowest ok n))))
-
-module _ (file : List ℕ) {node : NodeValues} (e : verdictOf file ≡ accepted node) (done : List Answered) (s : Session) (stands : Standing file done s) (c : Call) where
-  -- the checks ask of the record what they ask of the file
-  answer-is : answerTo s c ≡ inOrder (c .inputs) (length (c .slice)) (inputCount file) (streamsOf file) (inputFits file (c .inputs)) (valueFits s (c .inputs))
-  unfolding answerOf
-  answer-is =
-      ap (λ (b : Bool). check b 30 File (inOrder (c .inputs) (length (c .slice)) (inputCount (held s)) (streamsOf (held s)) (inputFits (held s) (c .inputs)) (valueFits s (c .inputs)))) (holds-node file e done s stands)
-      ∙ ap₂ (λ (n : Node) (fit : ℕ → Bool). inOrder (c .inputs) (length (c .slice)) (n .inputs) (n .streams) fit (valueFits s (c .inputs)))
-      (held-node file e done s stands)
-      (ap (λ (f : List ℕ). inputFits f (c .inputs)) (stands .holds) ∙ input-fits-same file e (c .inputs))
-
-  -- what holds of the refusals 31 to 33, and of 34's search, holds of the answer
-  by-answer : (P : Answer (Unit {0}) → Type 0) → P (refused 31 File) → P (refused 32 File) → ((i : ℕ) → P (refused 33 (AtRecord i))) → (Right file c → P (searched (lowest (valueFits s (c .inputs)) (streamsOf file)))) → P (answerTo s c)
-  by-answer P p31 p32 p33 rest =
-      rw answer-is
-      (by-check P (eqb (length (c .inputs)) (inputCount file)) 31 File _ (λ f. p31) λ e31.
-      by-check P (eqb (length (c .slice)) (streamsOf file)) 32 File _ (λ f. p32) λ e32.
-      by-check-all P (lowest (inputFits file (c .inputs)) (streamsOf file)) 33 AtRecord _ (λ i f. p33 i) λ e33.
-      rest (record {
-        typed = passes-typed file (c .inputs) e (eqb-true _ _ e31) (all (inputFits file (c .inputs)) (streamsOf file) e33);
-        sized = eqb-true _ _ e32;
-      }))
-
-  pub never-30 : (place : Place) → answerTo s c ≡ refused 30 place → ⊥
-  never-30 place =
-      by-answer (λ a. a ≡ refused 30 place → ⊥) (other 31 File (λ m. omega arith)) (other 32 File (λ m. omega arith)) (λ i. other 33 (AtRecord i) (λ m. omega arith))
-      λ right. by-check-all (λ a. a ≡ refused 30 place → ⊥) (lowest (valueFits s (c .inputs)) (streamsOf file)) 34 AtRecord (accepted tt)
-      (λ i f. other 34 (AtRecord i) (λ m. omega arith)) (λ f q. refused-accepted 30 place (sym q))
-    where
-      other : (n : ℕ) (at : Place) → (n ≡ 30 → ⊥) → _≡_ {A = Answer (Unit {0})} (refused n at) (refused 30 place) → ⊥
-      other n at differs q = differs (ap numberIn q)
-
-  pub accepted-right : answerTo s c ≡ accepted tt → Right file c
-  accepted-right =
-      by-answer (λ a. a ≡ accepted tt → Right file c)
-      (λ q. absurd (refused-accepted 31 File q)) (λ q. absurd (refused-accepted 32 File q)) (λ i q. absurd (refused-accepted 33 (AtRecord i) q))
-      (λ right q. right)
-
-  -- a right call comes to 34
-  right-answer : Right file c → answerTo s c ≡ searched (lowest (valueFits s (c .inputs)) (streamsOf file))
-  right-answer right =
-      answer-is
-      ∙ rw (eq-eqb _ _ (right .typed .count), eq-eqb _ _ (right .sized), none (inputFits file (c .inputs)) (streamsOf file) (typed-passes file (c .inputs) (right .typed)))
-
-  module _ (v : Streams) (judged : Judged file done c v) (right : Right file c) where
-    -- .. which searches the solution's values
-    judged-answer : answerTo s c ≡ searched (lowest (λ k. inside (v (length done) k)) (streamsOf file))
-    unfolding valueFits
-    judged-answer =
-        right-answer right
-        ∙ ap searched
-        (lowest-same (valueFits s (c .inputs)) (λ k. inside (v (length done) k)) (streamsOf file)
-        (λ k l. ap inside (worked-out-is file e done s stands (c .inputs) (judged .inputs) (judged .starts) (judged .own) v (judged .solves) k l)))
-
-    pub answered-inside : (answerTo s c ≡ accepted tt) ↔ ((i : ℕ) → i < streamsOf file → inside (v (length done) i) ≡ true)
-    answered-inside = rw judged-answer (search-accepted (λ k. inside (v (length done) k)) (streamsOf file))
-
-    pub refused-outside : (i : ℕ) → (answerTo s c ≡ refused 34 (AtRecord i)) ↔ Lowest (λ k. inside (v (length done) k)) (streamsOf file) i
-    refused-outside i = rw judged-answer (search-refused (λ k. inside (v (length done) k)) (streamsOf file) i)
+    pub answered-typed : answerTo s c ≡ accepted tt → TypedInstant (nodeOf file) (c .inputs)
+    answered-typed = rw answer-is (given-typed (valuesIn (workedOut s (c .inputs))))

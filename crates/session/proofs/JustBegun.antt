@@ -39,5 +39,5 @@ module _ (file : List ℕ) {node : NodeValues} (e : verdictOf file ≡ accepted 
         first = refl;
         last = λ u starts v solves past. absurd (true≢false past);
         fits = λ past. absurd (true≢false past);
-        shows = shows-none file;
+        shows = shows-none file e;
       }

@@ -3,7 +3,6 @@ pub mod Beginnings
 pub mod CallAnswers
 pub mod Filled
 pub mod HeldNodes
-pub mod InputTests
 pub mod Judging
 pub mod JustBegun
 pub mod Kept

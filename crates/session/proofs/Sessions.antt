@@ -1,5 +1,5 @@
--- Every list of an instant's calls from an answered beginning shows the solution's values, and every call after it is answered
--- exactly where it should be.
+-- Every list of an instant's calls from an answered beginning shows the solution's values, and every call after it gets the answer that
+-- they give.
 -- Assumes nothing.
 use mathlib.Core.Path.{_≡_, sym, subst}
 use mathlib.Core.List.{List, [], _∷_, _++_, append-nil, append-assoc}
@@ -10,11 +10,12 @@ use Rattle.session.specs.declared.Session.{Session}
 use Rattle.session.specs.Lists.{Call, Answered, answerTo, after, afterAll, answered}
 use Rattle.session.specs.Records.{begun}
 use Rattle.session.specs.Theorems.{Shows, Exact, SessionsExact}
-use Rattle.session.proofs.CallAnswers.{never-30, accepted-right, answered-inside, refused-outside}
+use Rattle.session.proofs.Answering.{refused-keeps}
+use Rattle.session.proofs.CallAnswers.{answer-given}
 use Rattle.session.proofs.JustBegun.{begun-is, begun-stands}
-use Rattle.session.proofs.Judging.{judged}
+use Rattle.session.proofs.Judging.{solved-on}
 use Rattle.session.proofs.Standing.{Standing}
-use Rattle.session.proofs.Steps.{told, step-stands, refused-keeps}
+use Rattle.session.proofs.Steps.{told, step-stands}
 
 module _ (file : List ℕ) {node : NodeValues} (e : verdictOf file ≡ accepted node) where
   -- a list of calls keeps what stands
@@ -29,12 +30,9 @@ module _ (file : List ℕ) {node : NodeValues} (e : verdictOf file ≡ accepted 
   pub standing-exact : (done : List Answered) (s : Session) → Standing file done s → (c : Call) → Exact file s done c
   standing-exact done s stands c =
       record {
-        not-30 = never-30 file e done s stands c;
-        right = accepted-right file e done s stands c;
-        judged = judged file e done (stands .shows) c;
-        answers = answered-inside file e done s stands c;
-        size = refused-outside file e done s stands c;
-        keeps = refused-keeps s c;
+        answers = answer-given file e c done s stands;
+        judged = solved-on file e done (stands .shows .typed) (c .inputs);
+        keeps = λ number place. refused-keeps s (c .inputs) (c .slice);
       }
 
 pub sessions-exact : SessionsExact

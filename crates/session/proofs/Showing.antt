@@ -4,23 +4,27 @@ use mathlib.Core.Path.{_≡_, sym, _∙_, ap, subst}
 use mathlib.Core.Logic.{_⊎_, inl, inr}
 use mathlib.Core.List.{List, [], _∷_, _++_}
 use Prim.Native.Nat.{ℕ, suc, _<_, _≤_}
-use native.Mathlib.Nat.{not-suc-le-zero, eq-or-lt-of-le, le-of-suc-le-suc, le-refl}
+use native.Mathlib.Nat.{not-suc-le-zero, eq-or-lt-of-le, le-of-suc-le-suc}
 use native.Mathlib.Omega.{arith}
 use lib.ListN.{length, length-append, List·getD-append}
 use lib.Seq.{getD-append-seam}
+use Rattle.answers.specs.Answer.{accepted, NodeValues}
 use Rattle.node.specs.Layout.{streamsOf}
+use Rattle.node.specs.Verdict.{verdictOf}
 use Rattle.streams.specs.Nodes.{nodeOf}
 use Rattle.streams.specs.Solutions.{Streams, Solution}
 use Rattle.streams.specs.Typing.{Inputs, TypedInstant, TypedInputs}
 use Rattle.streams.specs.Values.{valuesIn}
 use Rattle.session.specs.Lists.{Answered, call}
 use Rattle.session.specs.Theorems.{StartsWith, Shows}
+use Rattle.session.proofs.Judging.{solved}
 
-pub shows-none : (file : List ℕ) → Shows file []
-shows-none file =
+pub shows-none : (file : List ℕ) {node : NodeValues} → verdictOf file ≡ accepted node → Shows file []
+shows-none file e =
     record {
       typed = λ t l. absurd (not-suc-le-zero l);
       sized = λ t l. absurd (not-suc-le-zero l);
+      solved = solved file e [] (λ t l. absurd (not-suc-le-zero l));
       shown = λ t l. absurd (not-suc-le-zero l);
     }
 
@@ -49,25 +53,20 @@ module _ (done : List Answered) (a : Answered) where
   pub starts-before : (t : ℕ) → t ≤ length done → (u : Inputs) → StartsWith more t u → StartsWith done t u
   starts-before t l u starts j m = starts j m ∙ ap (λ (x : Answered). x .inputs) (call-before j (omega arith))
 
-  module _ (file : List ℕ) where
-    -- a call's values are those of every solution on inputs that start with the answered ones and then its own
-    abbrev pub ShownAt : ℕ → Answered → Type 0
-    ShownAt t x =
-        (u : Inputs) → TypedInputs (nodeOf file) u → u t ≡ x .inputs → StartsWith done t u
+  module _ (file : List ℕ) {node : NodeValues} (e : verdictOf file ≡ accepted node) where
+    -- the values of answered call t are those of every solution on inputs that start with those of `calls` up to it
+    abbrev ShownAt : (calls : List Answered) → ℕ → Answered → Type 0
+    ShownAt calls t x =
+        (u : Inputs) → TypedInputs (nodeOf file) u → StartsWith calls (suc t) u
         → (v : Streams) → Solution (nodeOf file) u v
         → (i : ℕ) → i < streamsOf file → valuesIn (x .values) i ≡ v t i
 
-    pub shows-more : Shows file done → TypedInstant (nodeOf file) (a .inputs) → length (a .values) ≡ streamsOf file → ShownAt (length done) a → Shows file more
+    pub shows-more : Shows file done → TypedInstant (nodeOf file) (a .inputs) → length (a .values) ≡ streamsOf file → ShownAt more (length done) a → Shows file more
     shows-more shows typed sized shown =
+        let all-typed = by-call (λ t x. TypedInstant (nodeOf file) (x .inputs)) (shows .typed) typed in
         record {
-          typed = by-call (λ t x. TypedInstant (nodeOf file) (x .inputs)) (shows .typed) typed;
+          typed = all-typed;
           sized = by-call (λ t x. length (x .values) ≡ streamsOf file) (shows .sized) sized;
-          shown =
-              by-call
-              (λ t x.
-              (u : Inputs) → TypedInputs (nodeOf file) u → u t ≡ x .inputs → StartsWith more t u
-              → (v : Streams) → Solution (nodeOf file) u v
-              → (i : ℕ) → i < streamsOf file → valuesIn (x .values) i ≡ v t i)
-              (λ t l u of-u own starts. shows .shown t l u of-u own (starts-before t (omega arith) u starts))
-              (λ u of-u own starts. shown u of-u own (starts-before (length done) (le-refl (length done)) u starts));
+          solved = solved file e more all-typed;
+          shown = by-call (ShownAt more) (λ t l u of-u starts. shows .shown t l u of-u (starts-before (suc t) l u starts)) shown;
         }

@@ -21,17 +21,19 @@ abbrev pub ShowsProperty : (node : List ℕ) → List Answered → Type 0
 ShowsProperty node done = (t : ℕ) → t < length done → valuesIn (call done t .values) (propertyOf node) ≡ pos 1
 
 pub record Demanded (node : List ℕ) (before : Session) (calls : List Call) : Type 0 where
-  -- "under every endless typed inputs the equations have exactly one solution over unbounded whole numbers"
+  -- on all endless typed inputs the node has exactly one solution, over whole numbers
   pub one-solution : OneSolution node
-  -- "the property is true at all instants"
+  -- in it the property is true at every instant
   pub property : PropertyHolds node
   -- the beginning is answered, whatever the record held before it
   pub begins : nodeVerdict node ≡ accepted (record { streams = streamsOf node; property = propertyOf node })
-  -- "every list of instant calls from a just begun session shows that solution's values, as one claim about the whole list"
+  -- the list's answered calls leave that solution's values: "This is one claim about the list as a whole and not a claim for each
+  -- call."
   pub shows : Shows node (answered (begunOf node before) calls)
   pub shows-property : ShowsProperty node (answered (begunOf node before) calls)
 
--- "whatever bytes the two files hold"
+-- "a certificate is accepted for a node if a call given both files answers so": whatever bytes these hold, whatever the record held
+-- before the beginning, whatever the calls
 abbrev pub Demand3 : Type 0
 Demand3 =
     (node cert : List ℕ) (v : CertificateValues) → verdictOf node cert ≡ accepted v

@@ -12,7 +12,7 @@ use Rattle.node.specs.Reads.{All}
 use Rattle.node.specs.Verdict.{verdictOf as nodeVerdict}
 use Rattle.node.specs.Written.{nodeFile}
 use Rattle.constraints.specs.Linear.{variable}
-use Rattle.rules.specs.Literals.{negative}
+use Rattle.literals.specs.Literals.{negative}
 use Rattle.rules.specs.Verdict.{verdictOf}
 use Rattle.streams.specs.Nodes.{nodeOf}
 use Rattle.streams.specs.Solutions.{Streams, Solution}

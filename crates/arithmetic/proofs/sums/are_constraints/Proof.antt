@@ -9,7 +9,7 @@ use borrow.Author.Tests.{le-leb, lt-leb}
 use Rattle.answers.specs.Checks.{every}
 use Rattle.answers.proofs.Every.{every-none, every-more, every-not}
 use Rattle.constraints.specs.Layout.{literalAt}
-use Rattle.rules.specs.Literals.{atomOf, isConstraint}
+use Rattle.literals.specs.Literals.{atomOf, isConstraint}
 use Rattle.arithmetic.proofs.sums.are_constraints.Statement.{statement}
 use Rattle.arithmetic.proofs.sums.are_constraints.Tie as tie
 

@@ -3,7 +3,7 @@
 use mathlib.Core.Path.{sym, _∙_, ap}
 use native.Mathlib.Omega.{arith}
 use borrow.Author.Needs.{needs}
-use Rattle.rules.specs.Literals.{isNegated}
+use Rattle.literals.specs.Literals.{isNegated}
 use Rattle.arithmetic.specs.Sums.{factorOf}
 use Rattle.arithmetic.proofs.Words.{multiplier-word, negated-fits, negated-word}
 use Rattle.arithmetic.proofs.terms.factor_at.Statement.{statement}

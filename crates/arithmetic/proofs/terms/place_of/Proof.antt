@@ -3,7 +3,7 @@
 use mathlib.Core.Path.{_∙_, ap}
 use borrow.Author.Needs.{needs}
 use borrow.Author.Tests.{leb-true}
-use Rattle.rules.specs.Literals.{atomOf}
+use Rattle.literals.specs.Literals.{atomOf}
 use Rattle.arithmetic.proofs.terms.place_of.Statement.{statement}
 use Rattle.arithmetic.proofs.terms.place_of.Tie as tie
 

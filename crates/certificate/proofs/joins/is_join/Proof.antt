@@ -3,17 +3,15 @@
 use mathlib.Core.Path.{_≡_, refl, sym, _∙_, ap}
 use mathlib.Core.Bool.{Bool, _&&_}
 use mathlib.Core.List.{List}
-use Prim.Native.Nat.{ℕ, _≤_}
-use native.Mathlib.Omega.{arith}
+use Prim.Native.Nat.{ℕ, _-_, _≤_}
+use native.Mathlib.Nat.{sub-zero}
 use borrow.Author.Needs.{needs}
 use borrow.Author.Tests.{not-true, not-false}
 use denote.Ref.{now}
-use Rattle.answers.proofs.Tests.{both-true}
 use Rattle.constraints.specs.declared.layout.LineHead.{LineHead}
-use Rattle.constraints.specs.Layout.{Line, lineAt, literalAt}
-use Rattle.rules.specs.Literals.{oppositeOf}
+use Rattle.constraints.specs.Layout.{Line, lineAt}
+use Rattle.literals.specs.Literals.{oppositeOf}
 use Rattle.rules.specs.Joins.{standsFrom, standsIn, joins}
-use Rattle.certificate.proofs.Standing.{stands-some}
 use Rattle.certificate.proofs.joins.is_join.Statement.{statement}
 use Rattle.certificate.proofs.joins.is_join.Tie as tie
 
@@ -48,22 +46,22 @@ few-q c = rw (c .line-head2 .ensures) (c .before .before .before .before .before
 few-here : (c : tie.After-line-head3) → c .line-head3 .result .count ≤ 12
 few-here c = rw (c .line-head3 .ensures) (c .before .before .before .before .before .before .before .pre .1 .2)
 
-stands-in-requires : tie.Need-stands-in-requires
-stands-in-requires c κs =
+stands-from-requires : tie.Need-stands-from-requires
+stands-from-requires c κs =
     let here = c .before in
     (here .before .before .before .before .before .before .before .pre .0 .0, few-p (here .before .before .before .before))
 
-stands-in-requires-2 : tie.Need-stands-in-requires-2
-stands-in-requires-2 c κs =
+stands-from-requires-2 : tie.Need-stands-from-requires-2
+stands-from-requires-2 c κs =
     let here = c .before .before in
     (here .before .before .before .before .before .before .before .pre .0 .1, few-q (here .before .before))
 
 -- a search over the head that was read is one over the line's
-searched : (literal : ℕ → ℕ) (l m : ℕ) (read head : LineHead) → l ≡ m → read ≡ head → standsFrom literal l 0 (read .count) ≡ standsFrom literal m 0 (head .count)
-searched literal l m read head e f = rw (e, f)
+searched : (literal : ℕ → ℕ) (l m : ℕ) (read head : LineHead) → l ≡ m → read ≡ head → standsFrom literal l 0 (read .count - 0) ≡ standsFrom literal m 0 (head .count)
+searched literal l m read head e f = rw (e, f, sub-zero)
 
 -- what both searches say, of the lines
-module _ (c : tie.After-stands-in2) where
+module _ (c : tie.After-stands-from2) where
   abbrev here : tie.After-line-head3
   here = c .before .before .before
 
@@ -80,42 +78,34 @@ module _ (c : tie.After-stands-in2) where
   q = lineAt bytes (in-p .before .before .before .args .q)
 
   abbrev r : ℕ
-  r = in-p .before .before .before .args .r
+  r = in-p .before .before .before .args .r .0
 
-  in-p-is : c .before .stands-in .result ≡ standsIn p r
-  in-p-is = c .before .stands-in .ensures ∙ searched (p .literal) r r _ (p .head) refl (in-p .line-head .ensures)
+  in-p-is : c .before .stands-from .result ≡ standsIn p r
+  in-p-is = c .before .stands-from .ensures ∙ searched (p .literal) r r _ (p .head) refl (in-p .line-head .ensures)
 
-  in-q-is : c .stands-in2 .result ≡ standsIn q (oppositeOf r)
+  in-q-is : c .stands-from2 .result ≡ standsIn q (oppositeOf r)
   in-q-is =
-      c .stands-in2 .ensures ∙ searched (q .literal) _ (oppositeOf r) _ (q .head) (in-p .before .opposite .ensures) (here .before .before .line-head2 .ensures)
+      c .stands-from2 .ensures ∙ searched (q .literal) _ (oppositeOf r) _ (q .head) (in-p .before .opposite .ensures) (here .before .before .line-head2 .ensures)
 
-  pub both-are : (c .before .stands-in .result && c .stands-in2 .result) ≡ (standsIn p r && standsIn q (oppositeOf r))
+  pub both-are : (c .before .stands-from .result && c .stands-from2 .result) ≡ (standsIn p r && standsIn q (oppositeOf r))
   both-are =
-      ap (λ (t : Bool). t && c .stands-in2 .result) in-p-is ∙ ap (λ (t : Bool). standsIn p r && t) in-q-is
+      ap (λ (t : Bool). t && c .stands-from2 .result) in-p-is ∙ ap (λ (t : Bool). standsIn p r && t) in-q-is
 
 returns : tie.Need-returns
 unfolding joins
 returns c = rw (sym (both-are (c .before)) ∙ not-true _ (c .if1 .taken))
 
-sub-left : tie.Need-sub-left
-sub-left c =
-    let tests = c .before in
-    let read = tests .before .before .before .before .before .before .before in
-    let a = read .before .before .before .args in
-    let stands = both-true (tests .before .stands-in .result) (tests .stands-in2 .result) (not-false _ (c .if1 .left)) in
-    stands-some (literalAt (now (a .file)) (a .p)) (a .r) (read .line-head .result .count) (sym (tests .before .stands-in .ensures) ∙ stands .0)
-
 covers-requires : tie.Need-covers-requires
 covers-requires c κs =
     let here = c .before .before .before .before in
     let asked = here .before .before .before .before .before .before .before .pre .0 in
-    (asked .0, few-p (here .before .before .before .before), asked .2, few-here here, search needs)
+    (asked .0, few-p (here .before .before .before .before), asked .2, few-here here)
 
 covers-requires-2 : tie.Need-covers-requires-2
 covers-requires-2 c κs =
     let here = c .before .before .before .before .before in
     let asked = here .before .before .before .before .before .before .before .pre .0 in
-    (asked .1, few-q (here .before .before), asked .2, few-here here, omega (arith, few-p (here .before .before .before .before)))
+    (asked .1, few-q (here .before .before), asked .2, few-here here)
 
 returns-2 : tie.Need-returns-2
 unfolding joins
@@ -138,10 +128,9 @@ is-join-spec =
     cast-in-q
     line-head-requires-3
     cast-here
-    stands-in-requires
-    stands-in-requires-2
+    stands-from-requires
+    stands-from-requires-2
     returns
-    sub-left
     covers-requires
     covers-requires-2
     returns-2)

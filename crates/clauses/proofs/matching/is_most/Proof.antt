@@ -8,7 +8,7 @@ use borrow.Author.Needs.{needs}
 use Rattle.constraints.specs.Layout.{Constraint, constraintAt}
 use Rattle.constraints.specs.Linear.{sameContent, boundedOf as ofConstraint}
 use Rattle.rules.specs.Clauses.{boundedOf}
-use Rattle.rules.specs.Literals.{atomOf, constraintNumber}
+use Rattle.literals.specs.Literals.{atomOf, constraintNumber}
 use Rattle.clauses.proofs.Literals.{not-negated, not-bool, not-past, says-content}
 use Rattle.clauses.proofs.matching.is_most.Statement.{statement}
 use Rattle.clauses.proofs.matching.is_most.Tie as tie
@@ -26,19 +26,19 @@ sign-requires c κs = search needs
 returns : tie.Need-returns
 returns c =
     let s = c .before .before .before .before in
-    sym (not-negated (constraints s) (s .args .m) (s .args .d) (s .args .literal) (sym (c .before .sign .ensures) ∙ c .if1 .taken))
+    sym (not-negated (constraints s) (s .args .m) (s .args .d) (s .args .literal .0) (sym (c .before .sign .ensures) ∙ c .if1 .taken))
 
 returns-2 : tie.Need-returns-2
 returns-2 c =
     let s = c .before .before .before .before .before in
-    let low : atomOf (s .args .literal) < 576 = omega (arith, c .before .before .before .atom .ensures) in
-    sym (not-bool (constraints s) (s .args .m) (s .args .d) (s .args .literal) low)
+    let low : atomOf (s .args .literal .0) < 576 = omega (arith, c .before .before .before .atom .ensures) in
+    sym (not-bool (constraints s) (s .args .m) (s .args .d) (s .args .literal .0) low)
 
 returns-3 : tie.Need-returns-3
 returns-3 c =
     let s = c .before .before .before .before .before .before in
-    let past : s .args .m ≤ constraintNumber (atomOf (s .args .literal)) = omega (arith, c .before .before .before .before .atom .ensures) in
-    sym (not-past (constraints s) (s .args .m) (s .args .d) (s .args .literal) past)
+    let past : s .args .m ≤ constraintNumber (atomOf (s .args .literal .0)) = omega (arith, c .before .before .before .before .atom .ensures) in
+    sym (not-past (constraints s) (s .args .m) (s .args .d) (s .args .literal .0) past)
 
 mul-same-content : tie.Need-mul-same-content
 mul-same-content c = search needs
@@ -55,8 +55,8 @@ returns-4 : tie.Need-returns-4
 returns-4 c =
     let s = c .before .before .before .before .before .before .before in
     let atom-is = c .before .before .before .before .before .atom .ensures in
-    let high : 576 ≤ atomOf (s .args .literal) = omega (arith, atom-is) in
-    let below : constraintNumber (atomOf (s .args .literal)) < s .args .m = omega (arith, atom-is) in
+    let high : 576 ≤ atomOf (s .args .literal .0) = omega (arith, atom-is) in
+    let below : constraintNumber (atomOf (s .args .literal .0)) < s .args .m = omega (arith, atom-is) in
     c .same-content .ensures
     ∙ ap (λ (a : ℕ). sameContent (ofConstraint (constraints s (constraintNumber a))) (boundedOf (s .args .d))) atom-is
     ∙ sym
@@ -64,7 +64,7 @@ returns-4 c =
     (constraints s)
     (s .args .m)
     (s .args .d)
-    (s .args .literal)
+    (s .args .literal .0)
     (sym (c .before .before .before .before .sign .ensures) ∙ c .before .before .before .if1 .left)
     high
     below)

@@ -9,14 +9,14 @@ use Rattle.clauses.proofs.matching.matches.Tie as tie
 enum-known-p : tie.Need-enum-known-p
 enum-known-p c = search needs
 
-is-yes-requires : tie.Need-is-yes-requires
-is-yes-requires c κs = search needs
+positive-requires : tie.Need-positive-requires
+positive-requires c κs = search needs
 
 enum-known-p-2 : tie.Need-enum-known-p-2
 enum-known-p-2 c = search needs
 
-is-no-requires : tie.Need-is-no-requires
-is-no-requires c κs = search needs
+negative-requires : tie.Need-negative-requires
+negative-requires c κs = search needs
 
 enum-known-p-3 : tie.Need-enum-known-p-3
 enum-known-p-3 c = search needs
@@ -27,10 +27,10 @@ is-most-requires c κs =
     (s .pre .0, subst SmallPattern (c .before .p3 .given .1) (s .pre .1))
 
 returns : tie.Need-returns
-returns c = rw (c .before .before .p .given .1) (c .is-yes .ensures)
+returns c = rw (c .before .before .before .before .p .given .1, c .before .before .positive .ensures)
 
 returns-2 : tie.Need-returns-2
-returns-2 c = rw (c .before .before .p2 .given .1) (c .is-no .ensures)
+returns-2 c = rw (c .before .before .before .before .p2 .given .1, c .before .before .negative .ensures)
 
 returns-3 : tie.Need-returns-3
 returns-3 c = rw (c .before .before .p3 .given .1) (c .is-most .ensures)
@@ -40,9 +40,9 @@ matches-spec =
     tie.close
     (tie.spec
     enum-known-p
-    is-yes-requires
+    positive-requires
     enum-known-p-2
-    is-no-requires
+    negative-requires
     enum-known-p-3
     is-most-requires
     returns
