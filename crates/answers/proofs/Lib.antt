@@ -3,5 +3,5 @@ pub mod Every
 pub mod FromTheFront
 pub mod InARow
 pub mod Lowest
-pub mod Numbers
 pub mod Tests
+pub mod Verdicts

@@ -3,8 +3,6 @@
 use Prim.Native.Nat.{ℕ}
 use mathlib.Core.Bool.{Bool, true, false}
 use Rattle.answers.specs.declared.Place.{Place}
-use Rattle.answers.specs.declared.Rule.{Rule}
-use Rattle.answers.specs.declared.Rule.the-variants.{NodeLength, NodeFixedBytes, NodeCounts, NodeDistance, RecordShape, RecordOperands, RecordTypes, PropertyType, CertificateLength, CertificateFixedBytes, CertificateCounts, CertificateDistance, ConstraintShape, LineShape, EquationLine, PropertyLine, JoinLine, ArithmeticLine, NoEmptyLine, NoNode, InputCount, SliceLength, BoolInput, OutsideRange}
 use Rattle.answers.specs.declared.NodeVerdict.{NodeVerdict}
 use Rattle.answers.specs.declared.NodeVerdict.the-variants.{Accepted, Refused}
 use Rattle.answers.specs.declared.CertificateVerdict.{CertificateVerdict}
@@ -25,33 +23,6 @@ ifAccepted (refused number place) moved kept = kept
 abbrev pub isAccepted : {A : Type 0} → Answer A → Bool
 isAccepted a = ifAccepted a true false
 
--- the number in the table "Where each refusal is met"
-abbrev pub numberOf : Rule → ℕ
-numberOf NodeLength = 1
-numberOf NodeFixedBytes = 2
-numberOf NodeCounts = 3
-numberOf NodeDistance = 4
-numberOf RecordShape = 5
-numberOf RecordOperands = 6
-numberOf RecordTypes = 7
-numberOf PropertyType = 8
-numberOf CertificateLength = 11
-numberOf CertificateFixedBytes = 12
-numberOf CertificateCounts = 13
-numberOf CertificateDistance = 14
-numberOf ConstraintShape = 15
-numberOf LineShape = 16
-numberOf EquationLine = 17
-numberOf PropertyLine = 18
-numberOf JoinLine = 19
-numberOf ArithmeticLine = 20
-numberOf NoEmptyLine = 21
-numberOf NoNode = 30
-numberOf InputCount = 31
-numberOf SliceLength = 32
-numberOf BoolInput = 33
-numberOf OutsideRange = 34
-
 -- what an accepted node file's answer carries
 pub record NodeValues : Type 0 where
   pub streams : ℕ
@@ -59,7 +30,7 @@ pub record NodeValues : Type 0 where
 
 abbrev pub nodeAnswer : NodeVerdict → Answer NodeValues
 nodeAnswer (Accepted n p) = accepted (record { streams = n; property = p })
-nodeAnswer (Refused rule place) = refused (numberOf rule) place
+nodeAnswer (Refused number place) = refused number place
 
 -- what an accepted certificate's answer carries: "its depth and both line counts, as the trailer has them"
 pub record CertificateValues : Type 0 where
@@ -69,9 +40,9 @@ pub record CertificateValues : Type 0 where
 
 abbrev pub certificateAnswer : CertificateVerdict → Answer CertificateValues
 certificateAnswer (Proved k b s) = accepted (record { depth = k; base = b; step = s })
-certificateAnswer (NotProved rule place) = refused (numberOf rule) place
+certificateAnswer (NotProved number place) = refused number place
 
 -- an answered instant's call carries nothing: its values are in the lent slice
 abbrev pub instantAnswer : InstantVerdict → Answer (Unit {0})
 instantAnswer Answered = accepted tt
-instantAnswer (NotAnswered rule place) = refused (numberOf rule) place
+instantAnswer (NotAnswered number place) = refused number place

@@ -3,9 +3,8 @@ use answers::CertificateVerdict;
 use answers::InstantVerdict;
 use answers::NodeVerdict;
 use answers::Place;
-use answers::Rule;
 ghost use mathlib.Core.Path.{_≡_};
-ghost use Rattle.answers.specs.Answer.{numberOf, nodeAnswer, certificateAnswer, instantAnswer};
+ghost use Rattle.answers.specs.Answer.{nodeAnswer, certificateAnswer, instantAnswer};
 ghost use Rattle.capi.specs.Answers.{placeNumber, placeIndex, toldAccepted, toldRefused, toldNode, toldCertificate, toldInstant};
 
 // An answer in numbers; specs/Answers.antt gives each.
@@ -58,11 +57,11 @@ fn accepted(first: usize, second: usize, third: usize) -> Told
     }
 }
 
-fn refused(rule: Rule, place: Place) -> Told
-    ensures { λ r. ⌜ r ≡ toldRefused (numberOf rule) place ⌝ }
+fn refused(number: usize, place: Place) -> Told
+    ensures { λ r. ⌜ r ≡ toldRefused number place ⌝ }
 {
     Told {
-        number: answers::number(rule),
+        number,
         place: place_number(place),
         index: place_index(place),
         first: 0,
@@ -76,7 +75,7 @@ pub fn told_node(verdict: NodeVerdict) -> Told
 {
     match verdict {
         NodeVerdict::Accepted { streams, property } => accepted(streams, property, 0),
-        NodeVerdict::Refused(rule, place) => refused(rule, place),
+        NodeVerdict::Refused(number, place) => refused(number, place),
     }
 }
 
@@ -85,7 +84,7 @@ pub fn told_certificate(verdict: CertificateVerdict) -> Told
 {
     match verdict {
         CertificateVerdict::Accepted { depth, base, step } => accepted(depth, base, step),
-        CertificateVerdict::Refused(rule, place) => refused(rule, place),
+        CertificateVerdict::Refused(number, place) => refused(number, place),
     }
 }
 
@@ -94,6 +93,6 @@ pub fn told_instant(verdict: InstantVerdict) -> Told
 {
     match verdict {
         InstantVerdict::Answered => accepted(0, 0, 0),
-        InstantVerdict::Refused(rule, place) => refused(rule, place),
+        InstantVerdict::Refused(number, place) => refused(number, place),
     }
 }

@@ -8,6 +8,7 @@ mod lines;
 mod parts;
 mod property;
 mod reading;
+mod refusals;
 mod search;
 mod shape;
 mod sorts;

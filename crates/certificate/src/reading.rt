@@ -2,12 +2,12 @@
 use crate::checker::lines_verdict;
 use crate::file_note::length_ok;
 use crate::lines::start_of;
+use crate::refusals;
 use crate::sorts::sorts_of;
 use answers::CertificateVerdict;
 use answers::Found;
 use answers::NodeVerdict;
 use answers::Place;
-use answers::Rule;
 use constraints::Trailer;
 use constraints::counts_ok;
 use constraints::distance_ok;
@@ -34,7 +34,7 @@ fn constraints_verdict(
     let start = start_of(cert, t);
     let m = t.constraints as usize;
     if let Found::At(i) = first_bad(cert, start, m, &sorts, t.depth) {
-        return CertificateVerdict::Refused(Rule::ConstraintShape, Place::Constraint(i));
+        return CertificateVerdict::Refused(refusals::CONSTRAINT, Place::Constraint(i));
     }
     lines_verdict(node, cert, &sorts, t, n, property)
 }
@@ -46,17 +46,17 @@ fn certificate_verdict(node: &[u8], cert: &[u8], n: usize, property: u16) -> Cer
 {
     let size = cert.len();
     if !length_ok(size) {
-        return CertificateVerdict::Refused(Rule::CertificateLength, Place::File);
+        return CertificateVerdict::Refused(refusals::LENGTH, Place::File);
     }
     let t = trailer_of(cert);
     if !fixed_ok(t) {
-        return CertificateVerdict::Refused(Rule::CertificateFixedBytes, Place::File);
+        return CertificateVerdict::Refused(refusals::FIXED_BYTES, Place::File);
     }
     if !counts_ok(t) {
-        return CertificateVerdict::Refused(Rule::CertificateCounts, Place::File);
+        return CertificateVerdict::Refused(refusals::COUNTS, Place::File);
     }
     if !distance_ok(t, size) {
-        return CertificateVerdict::Refused(Rule::CertificateDistance, Place::File);
+        return CertificateVerdict::Refused(refusals::DISTANCE, Place::File);
     }
     constraints_verdict(node, cert, t, n, property)
 }
@@ -69,6 +69,6 @@ pub fn verdict(node: &[u8], cert: &[u8]) -> CertificateVerdict
         NodeVerdict::Accepted { streams, property } => {
             certificate_verdict(node, cert, streams, property as u16)
         }
-        NodeVerdict::Refused(rule, place) => CertificateVerdict::Refused(rule, place),
+        NodeVerdict::Refused(number, place) => CertificateVerdict::Refused(number, place),
     }
 }

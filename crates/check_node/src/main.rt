@@ -3,7 +3,6 @@
 use answers::CertificateVerdict;
 use answers::NodeVerdict;
 use answers::Place;
-use answers::Rule;
 use files::read_file;
 use libc::STDOUT_FILENO;
 
@@ -17,9 +16,9 @@ fn say_number(before: &[u8], n: usize) {
 }
 
 // A refusal is said as that of a certificate is.
-fn say_refused(rule: Rule, place: Place) {
+fn say_refused(number: usize, place: Place) {
     let mut line = [0u8; 96];
-    let length = report::write_line(CertificateVerdict::Refused(rule, place), &mut line);
+    let length = report::write_line(CertificateVerdict::Refused(number, place), &mut line);
     say(&line[..length]);
 }
 
@@ -33,7 +32,7 @@ fn say_verdict(file: &[u8]) {
             say_number(b" note ", node::note(file).len());
             say(b"\n");
         }
-        NodeVerdict::Refused(rule, place) => say_refused(rule, place),
+        NodeVerdict::Refused(number, place) => say_refused(number, place),
     }
 }
 

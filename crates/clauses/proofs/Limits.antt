@@ -1,9 +1,9 @@
 -- The clauses of an equation whose constant is within ±1,000,000,000 have only small numbers.
 -- Assumes nothing.
 use mathlib.Core.Path.{_≡_, subst}
-use mathlib.Core.List.{List, [], _∷_, _++_, map}
+use mathlib.Core.List.{List, map}
 use mathlib.Core.Bool.{Bool, true, false, cond}
-use Prim.Native.Nat.{ℕ, zero, suc, _≤_}
+use Prim.Native.Nat.{ℕ, _≤_}
 use native.Mathlib.Omega.{arith}
 use lib.IntN.{ℤ, pos, negℤ, natAbs}
 use lib.Signed.{leZ}
@@ -12,16 +12,19 @@ use Rattle.node.specs.declared.equation.Kind.{Kind}
 use Rattle.node.specs.declared.equation.Kind.the-variants.{Bool as BoolKind, Int as IntKind}
 use Rattle.node.specs.declared.equation.Equation.{Equation}
 use Rattle.node.specs.declared.equation.Equation.the-variants.{Input, Constant, Not, And, Or, Same, Sum, Difference, Multiple, AtMost, Equal, If, Arrow, FollowedBy}
+use Rattle.node.proofs.WellFormedness.{all-append}
 use Rattle.rules.specs.declared.pattern.Clause.{Clause}
-use Rattle.rules.specs.declared.pattern.Named.{Named}
-use Rattle.rules.specs.declared.pattern.Named.the-variants.{Is, Missing}
+use Rattle.rules.specs.declared.pattern.Named.the-variants.{Is}
 use Rattle.rules.specs.declared.pattern.Pattern.{Pattern}
 use Rattle.rules.specs.declared.pattern.Pattern.the-variants.{Yes, No}
 use Rattle.rules.specs.declared.pattern.Place.{Place}
 use Rattle.rules.specs.declared.pattern.Place.the-variants.{Opening, Unsure, Inner}
-use Rattle.rules.specs.Clauses.{most, less, clause1, clause2, clause3, equalTo, sameAs, guarded, clauses, numbered}
+use Rattle.rules.specs.Clauses.{most, less, clause1, clause2, clause3, equalTo, sameAs, guarded, firstThen, clauses, numbered}
+use Rattle.rules.proofs.ClauseForms.{all-map}
 use Rattle.clauses.specs.Matching.{SmallPattern}
+use Rattle.clauses.specs.Operators.{Has}
 use Rattle.clauses.specs.Limits.{constantOf, SmallClause, AllSmall}
+use Rattle.clauses.proofs.Numbering.{number-has}
 
 small1 : (p : Pattern) → SmallPattern p → SmallClause (clause1 p)
 small1 p h = record { first = h; second = h; third = h }
@@ -51,13 +54,16 @@ small-same-as : (kind : Kind) (s t : ℕ) → AllSmall (sameAs kind s t)
 small-same-as BoolKind s t = (small2 (No s) (Yes t) tt tt, (small2 (Yes s) (No t) tt tt, tt))
 small-same-as IntKind s t = (small1 (most s t) (small-most s t), (small1 (most t s) (small-most t s), tt))
 
-small-guarded : (p : Pattern) → SmallPattern p → (cs : List Clause) → AllSmall cs → AllSmall (map (guarded p) cs)
-small-guarded p h [] l = tt
-small-guarded p h (c ∷ cs) l = (record { first = h; second = l .0 .first; third = l .0 .second }, small-guarded p h cs (l .1))
+small-guarded : (kind : Kind) (p : Pattern) (s t : ℕ) → SmallPattern p → AllSmall (map (guarded p) (sameAs kind s t))
+small-guarded kind p s t h =
+    all-map SmallClause SmallClause (guarded p)
+    (λ c l. record { first = h; second = l .first; third = l .second })
+    (sameAs kind s t) (small-same-as kind s t)
 
-small-append : (cs ds : List Clause) → AllSmall cs → AllSmall ds → AllSmall (cs ++ ds)
-small-append [] ds h l = l
-small-append (c ∷ cs) ds h l = (h .0, small-append cs ds (h .1) l)
+small-first-then : (kind : Kind) (place : Place) (s x y : ℕ) → AllSmall (firstThen kind place s x y)
+small-first-then kind Opening s x y = small-same-as kind s x
+small-first-then kind Unsure s x y = tt
+small-first-then kind Inner s x y = small-same-as kind s y
 
 small-bool : (t : Bool) (s : ℕ) → SmallPattern (cond t (No s) (Yes s))
 small-bool true s = tt
@@ -105,27 +111,12 @@ module _ (now back : ℕ → ℕ) (s : ℕ) where
     ),
   )
   small-clauses kind (If a b c) place h =
-      small-append
-      (map (guarded (No (now c))) (sameAs kind s (now a)))
-      (map (guarded (Yes (now c))) (sameAs kind s (now b)))
-      (small-guarded (No (now c)) tt (sameAs kind s (now a)) (small-same-as kind s (now a)))
-      (small-guarded (Yes (now c)) tt (sameAs kind s (now b)) (small-same-as kind s (now b)))
-  small-clauses kind (Arrow a b) Opening h = small-same-as kind s (now a)
-  small-clauses kind (Arrow a b) Unsure h = tt
-  small-clauses kind (Arrow a b) Inner h = small-same-as kind s (now b)
-  small-clauses kind (FollowedBy a b) Opening h = small-same-as kind s (now a)
-  small-clauses kind (FollowedBy a b) Unsure h = tt
-  small-clauses kind (FollowedBy a b) Inner h = small-same-as kind s (back b)
+      all-append _ (map (guarded (No (now c))) (sameAs kind s (now a))) (map (guarded (Yes (now c))) (sameAs kind s (now b)))
+      (small-guarded kind (No (now c)) s (now a) tt)
+      (small-guarded kind (Yes (now c)) s (now b) tt)
+  small-clauses kind (Arrow a b) place h = small-first-then kind place s (now a) (now b)
+  small-clauses kind (FollowedBy a b) place h = small-first-then kind place s (now a) (back b)
 
 -- so has the clause of a number
-abbrev SmallNamed : Named → Type 0
-SmallNamed (Is c) = SmallClause c
-SmallNamed Missing = Unit {0}
-
-small-number : (cs : List Clause) (r : ℕ) → AllSmall cs → SmallNamed (numbered cs r)
-small-number [] r h = tt
-small-number (c ∷ cs) zero h = h .0
-small-number (c ∷ cs) (suc r) h = small-number cs r (h .1)
-
 pub small-named : (cs : List Clause) (r : ℕ) (c : Clause) → AllSmall cs → numbered cs r ≡ Is c → SmallClause c
-small-named cs r c h e = subst SmallNamed e (small-number cs r h)
+small-named cs r c h e = subst (Has SmallClause) e (number-has SmallClause cs r h)

@@ -1,15 +1,21 @@
 -- The clause of a number: none past a list's end, and the same where the list has the same clauses.
 -- Assumes nothing.
 use mathlib.Core.Path.{_≡_, refl, ap, ap₂}
-use mathlib.Core.List.{List, [], _∷_}
-use Prim.Native.Nat.{ℕ, zero, suc, _≤_}
+use mathlib.Core.List.{List, [], _∷_, _++_, map}
+use Prim.Native.Nat.{ℕ, zero, suc, _+_, _≤_, _<_}
 use native.Mathlib.Nat.{not-suc-le-zero, le-of-suc-le-suc}
+use native.Mathlib.Omega.{arith}
 use lib.IntN.{ℤ}
 use lib.ListN.{length}
+use Rattle.node.specs.Reads.{All}
 use Rattle.rules.specs.declared.pattern.Clause.{Clause}
 use Rattle.rules.specs.declared.pattern.Named.the-variants.{Missing}
+use Rattle.node.specs.declared.equation.Kind.{Kind}
+use Rattle.node.specs.declared.equation.Kind.the-variants.{Bool as BoolKind, Int as IntKind}
+use Rattle.rules.specs.declared.pattern.Pattern.{Pattern}
 use Rattle.rules.specs.declared.pattern.Pattern.the-variants.{Most}
-use Rattle.rules.specs.Clauses.{linear, clause1, numbered}
+use Rattle.rules.specs.Clauses.{linear, clause1, sameAs, guarded, numbered}
+use Rattle.clauses.specs.Operators.{guardedNamed, Has, Short}
 
 pub past-end : (cs : List Clause) (r : ℕ) → length cs ≤ r → numbered cs r ≡ Missing
 past-end [] r l = refl
@@ -47,3 +53,36 @@ same4 f p q r t = rw (p, q, r, t)
 
 pub same-constant : (f : ℕ → ℤ → List Clause) {s s' : ℕ} {k k' : ℤ} → s ≡ s' → k ≡ k' → f s k ≡ f s' k'
 same-constant f p q = ap₂ f p q
+
+-- ---- a literal in front
+
+guarded-number : (p : Pattern) (cs : List Clause) (r : ℕ) → guardedNamed p (numbered cs r) ≡ numbered (map (guarded p) cs) r
+guarded-number p [] r = refl
+guarded-number p (c ∷ cs) zero = refl
+guarded-number p (c ∷ cs) (suc r) = guarded-number p cs r
+
+-- two lists in a row, each with a literal of its own in front: a number is the first list's as far as that goes
+module _ (p q : Pattern) (ds : List Clause) where
+  pub guarded-first : (cs : List Clause) (r : ℕ) → r < length cs → guardedNamed p (numbered cs r) ≡ numbered (map (guarded p) cs ++ map (guarded q) ds) r
+  guarded-first [] r l = absurd (not-suc-le-zero l)
+  guarded-first (c ∷ cs) zero l = refl
+  guarded-first (c ∷ cs) (suc r) l = guarded-first cs r (le-of-suc-le-suc l)
+
+  pub guarded-then : (cs : List Clause) (r t : ℕ) → r ≡ length cs + t → guardedNamed q (numbered ds t) ≡ numbered (map (guarded p) cs ++ map (guarded q) ds) r
+  guarded-then [] r t e = let f : r ≡ t = omega arith in rw f (guarded-number q ds t)
+  guarded-then (c ∷ cs) zero t e = absurd (omega arith)
+  guarded-then (c ∷ cs) (suc r) t e = guarded-then cs r t (omega arith)
+
+pub two-clauses : (kind : Kind) (s t : ℕ) → length (sameAs kind s t) ≡ 2
+two-clauses BoolKind s t = refl
+two-clauses IntKind s t = refl
+
+-- what each of a list has, the clause of a number has
+pub number-has : (P : Clause → Type 0) (cs : List Clause) (r : ℕ) → All P cs → Has P (numbered cs r)
+number-has P [] r h = tt
+number-has P (c ∷ cs) zero h = h .0
+number-has P (c ∷ cs) (suc r) h = number-has P cs r (h .1)
+
+pub same-short : (kind : Kind) (s t : ℕ) → All Short (sameAs kind s t)
+same-short BoolKind s t = (omega arith, (omega arith, tt))
+same-short IntKind s t = (omega arith, (omega arith, tt))

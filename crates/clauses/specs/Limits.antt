@@ -1,8 +1,9 @@
 -- The clauses whose numbers are those that a constant K or an operator gives: what `matches` asks of each literal.
-use mathlib.Core.List.{List, [], _∷_}
+use mathlib.Core.List.{List}
 use lib.IntN.{ℤ, pos}
 use Rattle.node.specs.declared.equation.Equation.{Equation}
 use Rattle.node.specs.declared.equation.Equation.the-variants.{Input, Constant, Not, And, Or, Same, Sum, Difference, Multiple, AtMost, Equal, If, Arrow, FollowedBy}
+use Rattle.node.specs.Reads.{All}
 use Rattle.rules.specs.declared.pattern.Clause.{Clause}
 use Rattle.clauses.specs.Matching.{SmallPattern}
 
@@ -29,5 +30,4 @@ pub record SmallClause (c : Clause) : Type 0 where
   pub third : SmallPattern (c .third)
 
 abbrev pub AllSmall : List Clause → Type 0
-AllSmall [] = Unit {0}
-AllSmall (c ∷ cs) = SmallClause c × AllSmall cs
+AllSmall = All SmallClause

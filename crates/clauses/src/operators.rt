@@ -9,6 +9,7 @@ use crate::lists::one;
 use crate::lists::three;
 use crate::lists::two;
 use node::Kind;
+use rules::Clause;
 use rules::Linear;
 use rules::Named;
 use rules::Pattern;
@@ -17,7 +18,7 @@ ghost use lib.IntN.{negℤ};
 ghost use Rattle.node.specs.declared.equation.Kind.the-variants.{Bool as BoolKind, Int as IntKind};
 ghost use Rattle.node.specs.declared.equation.Equation.the-variants.{Constant, Not, And, Or, Same, Multiple, AtMost, Equal, If};
 ghost use Rattle.rules.specs.Clauses.{equalTo, sameAs, numbered};
-ghost use Rattle.clauses.specs.Operators.{over};
+ghost use Rattle.clauses.specs.Operators.{over, guardedNamed, Has, Short};
 
 // A constant, and its negation, in 64 bits.
 fn wide(k: i32) -> i64
@@ -163,24 +164,33 @@ pub fn equal(s: usize, a: usize, b: usize, r: u16) -> Named
     )
 }
 
-// Operator 11.
+// Clause r of a list, with a literal put in front.
+fn guarded(p: Pattern, clause: Named) -> Named
+    requires { ⌜ Has Short clause ⌝ }
+    ensures { λ z. ⌜ z ≡ guardedNamed p clause ⌝ }
+{
+    match clause {
+        Named::Is(c) => {
+            let first = c.first;
+            let second = c.second;
+            Named::Is(Clause {
+                count: c.count + 1,
+                first: p,
+                second: first,
+                third: second,
+            })
+        }
+        Named::Missing => Named::Missing,
+    }
+}
+
+// Operator 11: two clauses of each branch.
 pub fn if_then_else(kind: Kind, s: usize, a: usize, b: usize, c: usize, r: u16) -> Named
     ensures { λ z. ⌜ z ≡ numbered (over kind (If a b c) s) r ⌝ }
 {
-    match kind {
-        Kind::Bool => of_four(
-            three(Pattern::No(c), Pattern::No(s), Pattern::Yes(a)),
-            three(Pattern::No(c), Pattern::Yes(s), Pattern::No(a)),
-            three(Pattern::Yes(c), Pattern::No(s), Pattern::Yes(b)),
-            three(Pattern::Yes(c), Pattern::Yes(s), Pattern::No(b)),
-            r,
-        ),
-        Kind::Int => of_four(
-            two(Pattern::No(c), most(s, a)),
-            two(Pattern::No(c), most(a, s)),
-            two(Pattern::Yes(c), most(s, b)),
-            two(Pattern::Yes(c), most(b, s)),
-            r,
-        ),
+    if r < 2 {
+        guarded(Pattern::No(c), same_as(kind, s, a, r))
+    } else {
+        guarded(Pattern::Yes(c), same_as(kind, s, b, r - 2))
     }
 }

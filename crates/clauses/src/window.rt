@@ -16,9 +16,8 @@ use rules::Named;
 use rules::Place;
 ghost use Prim.Native.Nat.{_-_};
 ghost use mathlib.Core.Path.{_≡_};
-ghost use Rattle.node.specs.declared.equation.Equation.the-variants.{Arrow};
 ghost use Rattle.constraints.specs.Linear.{variable};
-ghost use Rattle.rules.specs.Clauses.{clauses, numbered};
+ghost use Rattle.rules.specs.Clauses.{firstThen, clauses, numbered};
 
 // Stream x at an offset, as one number.
 pub fn var(offset: u8, x: u16) -> usize
@@ -40,7 +39,7 @@ fn back(offset: u8, x: u16) -> usize
 
 // Operators 12 and 13: at the window's start the first operand, or no clause where that may be any instant; later the second.
 fn later(kind: Kind, place: Place, s: usize, first: usize, second: usize, r: u16) -> Named
-    ensures { λ z. ⌜ z ≡ numbered (clauses kind (Arrow first second) place (λ x. x) (λ x. x) s) r ⌝ }
+    ensures { λ z. ⌜ z ≡ numbered (firstThen kind place s first second) r ⌝ }
 {
     match place {
         Place::Opening => same_as(kind, s, first, r),

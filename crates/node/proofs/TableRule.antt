@@ -2,12 +2,12 @@
 -- operator's row.
 -- Assumes nothing.
 use mathlib.Core.Path.{_≡_}
-use mathlib.Core.Bool.{Bool, true, not}
+use mathlib.Core.Bool.{true, false}
 use mathlib.Core.List.{List, [], _∷_, _++_}
 use Prim.Native.Nat.{ℕ, _<_}
 use Rattle.node.specs.declared.layout.Record.{Record}
-use Rattle.node.specs.declared.table.Wanted.{Wanted}
-use Rattle.node.specs.declared.table.Wanted.the-variants.{Unused, ABool, AnInt, Own}
+use Rattle.node.specs.declared.table.Operand.{Operand}
+use Rattle.node.specs.declared.table.Operand.the-variants.{Unused, Now, Before}
 use Rattle.node.specs.declared.table.Row.{Row}
 use Rattle.node.specs.Equations.{decoded}
 use Rattle.node.specs.Reads.{Read, reads, yields}
@@ -15,14 +15,13 @@ use Rattle.node.specs.Table.{rowOf}
 use Rattle.answers.proofs.Entries.{each}
 
 -- an operand as a row has it
-abbrev pub reading : Wanted → (now : Bool) → ℕ → List Read
-reading Unused now x = []
-reading ABool now x = record { stream = x; wanted = ABool; now = now } ∷ []
-reading AnInt now x = record { stream = x; wanted = AnInt; now = now } ∷ []
-reading Own now x = record { stream = x; wanted = Own; now = now } ∷ []
+abbrev pub reading : Operand → ℕ → List Read
+reading Unused x = []
+reading (Now wanted) x = record { stream = x; wanted = wanted; now = true } ∷ []
+reading (Before wanted) x = record { stream = x; wanted = wanted; now = false } ∷ []
 
 abbrev pub rowReads : Row → Record → List Read
-rowReads row r = reading (row .a) true (r .a) ++ (reading (row .b) (not (row .later)) (r .b) ++ reading (row .c) true (r .c))
+rowReads row r = reading (row .a) (r .a) ++ (reading (row .b) (r .b) ++ reading (row .c) (r .c))
 
 -- the record with another operator
 abbrev pub with-op : Record → ℕ → Record

@@ -2,7 +2,7 @@
 -- range. The argument goes by the operator's row and not by the operator.
 -- Assumes nothing.
 use mathlib.Core.Path.{_≡_, refl, ap}
-use mathlib.Core.Bool.{Bool, true, false, not, cond, _&&_, _||_}
+use mathlib.Core.Bool.{Bool, true, false, cond, _&&_, false≢true}
 use mathlib.Core.List.{List, [], _∷_, _++_}
 use Prim.Native.Nat.{ℕ, _<_}
 use native.Mathlib.Omega.{arith}
@@ -17,13 +17,15 @@ use Rattle.node.specs.declared.equation.Kind.the-variants.{Bool as BoolK
 use Rattle.node.specs.declared.layout.Record.{Record}
 use Rattle.node.specs.declared.table.Limit.the-variants.{Zero, Value}
 use Rattle.node.specs.declared.table.Wanted.{Wanted}
-use Rattle.node.specs.declared.table.Wanted.the-variants.{Unused, ABool, AnInt, Own}
+use Rattle.node.specs.declared.table.Wanted.the-variants.{ABool, AnInt, Own}
+use Rattle.node.specs.declared.table.Operand.{Operand}
+use Rattle.node.specs.declared.table.Operand.the-variants.{Unused, Now, Before}
 use Rattle.node.specs.Equations.{kindOf, kindAt, decoded}
 use Rattle.node.specs.Layout.{streamsOf, recordOf, typeOf}
 use Rattle.node.specs.Outcome.{NodeRules}
 use Rattle.node.specs.Reads.{reads, yields, wantedKind, All, ReadOk, ConstantIn, ConstantOk, WellFormedFile}
-use Rattle.node.specs.Rules.{constantLimit, within, constantOk, unusedOk, shapeOk, placed, operandsOk, hasType, typesOk, propertyOk}
-use Rattle.node.specs.Table.{rowOf, readsIt}
+use Rattle.node.specs.Rules.{constantLimit, within, constantOk, unusedOk, shapeOk, placed, operandsOk, hasType, typed, typesOk, propertyOk}
+use Rattle.node.specs.Table.{rowOf}
 use Rattle.node.specs.Verdict.{verdictOf}
 use Rattle.answers.proofs.Entries.{each}
 use Rattle.node.proofs.FileRules.{sizes}
@@ -35,33 +37,19 @@ all-append P [] ys ps qs = qs
 all-append P (x ∷ xs) ys ps qs = (ps .0, all-append P xs ys (ps .1) qs)
 
 -- a type byte that is the wanted one stands for the wanted type
-typed : (wanted : Wanted) (own kind : ℕ) → readsIt wanted ≡ true → hasType wanted own kind ≡ true → kindOf kind ≡ wantedKind (kindOf own) wanted
-typed Unused own kind r e = cc
-typed ABool own kind r e = rw e
-typed AnInt own kind r e = rw (eqb-true kind 1 e)
-typed Own own kind r e = ap kindOf (eqb-true kind own e)
-
-own-typed : (wanted : Wanted) (kind : ℕ) → hasType wanted kind kind ≡ true → kindOf kind ≡ wantedKind (kindOf kind) wanted
-own-typed Unused kind e = refl
-own-typed ABool kind e = typed ABool kind kind refl e
-own-typed AnInt kind e = typed AnInt kind kind refl e
-own-typed Own kind e = refl
-
-now-lower : (later : Bool) (x i : ℕ) → (later || ltb x i) ≡ true → not later ≡ true → x < i
-now-lower true x i e f = let z : _≡_ {A = ℕ} 0 1 = cc in omega arith
-now-lower false x i e f = ltb-true x i e
+typed-is : (wanted : Wanted) (own kind : ℕ) → hasType wanted own kind ≡ true → kindOf kind ≡ wantedKind (kindOf own) wanted
+typed-is ABool own kind e = rw e
+typed-is AnInt own kind e = rw (eqb-true kind 1 e)
+typed-is Own own kind e = ap kindOf (eqb-true kind own e)
 
 module _ (n i : ℕ) (types : ℕ → ℕ) where
-  read-ok : (wanted : Wanted) (later : Bool) (x : ℕ) → readsIt wanted ≡ true → placed wanted later n i x ≡ true → hasType wanted (types i) (types x) ≡ true → ReadOk n (λ j. kindOf (types j)) i (record { stream = x; wanted = wanted; now = not later })
-  read-ok wanted later x r p h =
-      let both = both-true (ltb x n) (later || ltb x i) (rw r at p) in
-      record { below = ltb-true _ _ (both .0); lower = now-lower later x i (both .1); typed = typed wanted (types i) (types x) r h }
-
-  operand-ok : (wanted : Wanted) (later : Bool) (x : ℕ) → placed wanted later n i x ≡ true → hasType wanted (types i) (types x) ≡ true → All (ReadOk n (λ j. kindOf (types j)) i) (reading wanted (not later) x)
-  operand-ok Unused later x p h = tt
-  operand-ok ABool later x p h = (read-ok ABool later x refl p h, tt)
-  operand-ok AnInt later x p h = (read-ok AnInt later x refl p h, tt)
-  operand-ok Own later x p h = (read-ok Own later x refl p h, tt)
+  operand-ok : (operand : Operand) (x : ℕ) → placed operand n i x ≡ true → typed operand (types i) (types x) ≡ true → All (ReadOk n (λ j. kindOf (types j)) i) (reading operand x)
+  operand-ok Unused x p h = tt
+  operand-ok (Now wanted) x p h =
+      let both = both-true (ltb x n) (ltb x i) p in
+      (record { below = ltb-true _ _ (both .0); lower = λ e. ltb-true _ _ (both .1); typed = typed-is wanted (types i) (types x) h }, tt)
+  operand-ok (Before wanted) x p h =
+      (record { below = ltb-true _ _ p; lower = λ e. absurd (false≢true e); typed = typed-is wanted (types i) (types x) h }, tt)
 
 in-range : (low k high : ℤ) → within low k high ≡ true → (low ≤ℤ k) × (k ≤ℤ high)
 in-range low k high e = let both = both-true (leZ low k) (leZ k high) e in (leZ-true low k .0 (both .0), leZ-true k high .0 (both .1))
@@ -113,35 +101,35 @@ module _ (s : List ℕ) (rules : NodeRules s) (i : ℕ) (l : i < streamsOf s) wh
   unfolding operandsOk typesOk
   operands-ok =
       let row = rowOf (r .op) in
-      let pa = placed (row .a) false n i (r .a) in
-      let pb = placed (row .b) (row .later) n i (r .b) in
-      let pc = placed (row .c) false n i (r .c) in
+      let pa = placed (row .a) n i (r .a) in
+      let pb = placed (row .b) n i (r .b) in
+      let pc = placed (row .c) n i (r .c) in
       let place = both-true (pa && pb) pc (rules .operands i l) in
       let place2 = both-true pa pb (place .0) in
       let own = hasType (row .own) (r .kind) (r .kind) in
-      let ta = hasType (row .a) (r .kind) (typeOf s (r .a)) in
-      let tb = hasType (row .b) (r .kind) (typeOf s (r .b)) in
-      let tc = hasType (row .c) (r .kind) (typeOf s (r .c)) in
+      let ta = typed (row .a) (r .kind) (typeOf s (r .a)) in
+      let tb = typed (row .b) (r .kind) (typeOf s (r .b)) in
+      let tc = typed (row .c) (r .kind) (typeOf s (r .c)) in
       let type = both-true (own && ta && tb) tc (rules .types i l) in
       let type2 = both-true (own && ta) tb (type .0) in
       let type3 = both-true own ta (type2 .0) in
       let ok = operand-ok n i (typeOf s) in
       rw (follows r operator .0)
-      (all-append _ (reading (row .a) true (r .a)) _ (ok (row .a) false (r .a) (place2 .0) (type3 .1))
-      (all-append _ (reading (row .b) (not (row .later)) (r .b)) _ (ok (row .b) (row .later) (r .b) (place2 .1) (type2 .1))
-      (ok (row .c) false (r .c) (place .1) (type .1))))
+      (all-append _ (reading (row .a) (r .a)) _ (ok (row .a) (r .a) (place2 .0) (type3 .1))
+      (all-append _ (reading (row .b) (r .b)) _ (ok (row .b) (r .b) (place2 .1) (type2 .1))
+      (ok (row .c) (r .c) (place .1) (type .1))))
 
   own-ok : kindOf (typeOf s i) ≡ wantedKind (kindOf (typeOf s i)) (yields (decoded r))
   unfolding typesOk
   own-ok =
       let row = rowOf (r .op) in
       let own = hasType (row .own) (r .kind) (r .kind) in
-      let ta = hasType (row .a) (r .kind) (typeOf s (r .a)) in
-      let tb = hasType (row .b) (r .kind) (typeOf s (r .b)) in
-      let tc = hasType (row .c) (r .kind) (typeOf s (r .c)) in
+      let ta = typed (row .a) (r .kind) (typeOf s (r .a)) in
+      let tb = typed (row .b) (r .kind) (typeOf s (r .b)) in
+      let tc = typed (row .c) (r .kind) (typeOf s (r .c)) in
       let type = both-true (own && ta && tb) tc (rules .types i l) in
       let type2 = both-true (own && ta) tb (type .0) in
-      rw (follows r operator .1) (own-typed (row .own) (r .kind) (both-true own ta (type2 .0) .0))
+      rw (follows r operator .1) (typed-is (row .own) (r .kind) (r .kind) (both-true own ta (type2 .0) .0))
 
 pub well-formed : (s : List ℕ) → NodeRules s → WellFormedFile s
 unfolding kindAt propertyOk

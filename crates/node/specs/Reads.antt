@@ -10,7 +10,7 @@ use Rattle.node.specs.declared.equation.Kind.the-variants.{Bool as BoolK
 use Rattle.node.specs.declared.equation.Equation.{Equation}
 use Rattle.node.specs.declared.equation.Equation.the-variants.{Input, Constant, Not, And, Or, Same, Sum, Difference, Multiple, AtMost, Equal, If, Arrow, FollowedBy}
 use Rattle.node.specs.declared.table.Wanted.{Wanted}
-use Rattle.node.specs.declared.table.Wanted.the-variants.{Unused, ABool, AnInt, Own}
+use Rattle.node.specs.declared.table.Wanted.the-variants.{ABool, AnInt, Own}
 use Rattle.node.specs.Equations.{kindAt, equationAt}
 use Rattle.node.specs.Layout.{streamsOf, propertyOf}
 use Rattle.node.specs.Rules.{constantLimit}
@@ -59,7 +59,6 @@ yields (FollowedBy a b) = Own
 
 -- the type that is wanted, where `own` is that of the equation's stream
 abbrev pub wantedKind : (own : Kind) → Wanted → Kind
-wantedKind own Unused = own
 wantedKind own ABool = BoolKind
 wantedKind own AnInt = IntKind
 wantedKind own Own = own

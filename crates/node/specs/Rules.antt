@@ -1,13 +1,15 @@
 -- The conditions 1 to 8 of "Where each refusal is met", each as the test that a file passes.
 use Prim.Native.Nat.{ℕ}
-use mathlib.Core.Bool.{Bool, true, false, cond, not, _&&_, _||_}
+use mathlib.Core.Bool.{Bool, true, cond, _&&_, _||_}
 use lib.Dec.{leb, ltb, eqb}
 use lib.IntN.{ℤ, pos, negℤ}
 use lib.Signed.{leZ}
 use Rattle.node.specs.declared.layout.Trailer.{Trailer}
 use Rattle.node.specs.declared.layout.Record.{Record}
 use Rattle.node.specs.declared.table.Wanted.{Wanted}
-use Rattle.node.specs.declared.table.Wanted.the-variants.{Unused, ABool, AnInt, Own}
+use Rattle.node.specs.declared.table.Wanted.the-variants.{ABool, AnInt, Own}
+use Rattle.node.specs.declared.table.Operand.{Operand}
+use Rattle.node.specs.declared.table.Operand.the-variants.{Unused, Now, Before}
 use Rattle.node.specs.declared.table.Limit.{Limit}
 use Rattle.node.specs.declared.table.Limit.the-variants.{Zero, Value, Factor}
 use Rattle.node.specs.declared.table.Row.{Row}
@@ -60,30 +62,37 @@ shapeOk r =
     && unusedOk (rowOf (r .op)) r
 
 -- "An operand needed now has a lower number than its record"
-abbrev pub placed : Wanted → (later : Bool) → (n i x : ℕ) → Bool
-placed wanted later n i x = not (readsIt wanted) || ltb x n && (later || ltb x i)
+abbrev pub placed : Operand → (n i x : ℕ) → Bool
+placed Unused n i x = true
+placed (Now wanted) n i x = ltb x n && ltb x i
+placed (Before wanted) n i x = ltb x n
 
 -- 6: operand not below n, or needed now and not lower
 unfoldable pub operandsOk : (n i : ℕ) → Record → Bool
 operandsOk n i r =
-    placed (rowOf (r .op) .a) false n i (r .a)
-    && placed (rowOf (r .op) .b) (rowOf (r .op) .later) n i (r .b)
-    && placed (rowOf (r .op) .c) false n i (r .c)
+    placed (rowOf (r .op) .a) n i (r .a)
+    && placed (rowOf (r .op) .b) n i (r .b)
+    && placed (rowOf (r .op) .c) n i (r .c)
 
 -- a type byte is the one that is wanted, where `own` is the record's: 0 bool, 1 int
 abbrev pub hasType : Wanted → (own kind : ℕ) → Bool
-hasType Unused own kind = true
 hasType ABool own kind = eqb kind 0
 hasType AnInt own kind = eqb kind 1
 hasType Own own kind = eqb kind own
+
+-- an operand that is read is of the type that is wanted
+abbrev pub typed : Operand → (own kind : ℕ) → Bool
+typed Unused own kind = true
+typed (Now wanted) own kind = hasType wanted own kind
+typed (Before wanted) own kind = hasType wanted own kind
 
 -- 7: type byte or operand type not the operator's; `types` gives each record's type byte
 unfoldable pub typesOk : (types : ℕ → ℕ) → Record → Bool
 typesOk types r =
     hasType (rowOf (r .op) .own) (r .kind) (r .kind)
-    && hasType (rowOf (r .op) .a) (r .kind) (types (r .a))
-    && hasType (rowOf (r .op) .b) (r .kind) (types (r .b))
-    && hasType (rowOf (r .op) .c) (r .kind) (types (r .c))
+    && typed (rowOf (r .op) .a) (r .kind) (types (r .a))
+    && typed (rowOf (r .op) .b) (r .kind) (types (r .b))
+    && typed (rowOf (r .op) .c) (r .kind) (types (r .c))
 
 -- 8: property not bool, by its type byte
 unfoldable pub propertyOk : (kind : ℕ) → Bool

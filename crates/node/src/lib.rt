@@ -5,6 +5,7 @@ mod file_note;
 mod inputs;
 mod layout;
 mod reading;
+mod refusals;
 mod rules;
 mod table;
 

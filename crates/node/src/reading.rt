@@ -2,6 +2,7 @@
 use crate::layout::record_among;
 use crate::layout::trailer_of;
 use crate::layout::type_among;
+use crate::refusals;
 use crate::rules::counts_ok;
 use crate::rules::distance_ok;
 use crate::rules::fixed_ok;
@@ -13,7 +14,6 @@ use crate::rules::types_ok;
 use answers::Found;
 use answers::NodeVerdict;
 use answers::Place;
-use answers::Rule;
 ghost use mathlib.Core.Path.{_≡_};
 ghost use Rattle.answers.specs.Answer.{nodeAnswer};
 ghost use Rattle.answers.specs.Checks.{lowest};
@@ -62,16 +62,16 @@ fn records_verdict(file: &[u8], n: usize, property: usize) -> NodeVerdict
     ensures { λ r. ⌜ nodeAnswer r ≡ recordsVerdict (now (file .entry)) n property ⌝ }
 {
     if let Found::At(i) = first_bad(file, n, RecordRule::Shape) {
-        return NodeVerdict::Refused(Rule::RecordShape, Place::Record(i));
+        return NodeVerdict::Refused(refusals::SHAPE, Place::Record(i));
     }
     if let Found::At(i) = first_bad(file, n, RecordRule::Operands) {
-        return NodeVerdict::Refused(Rule::RecordOperands, Place::Record(i));
+        return NodeVerdict::Refused(refusals::OPERANDS, Place::Record(i));
     }
     if let Found::At(i) = first_bad(file, n, RecordRule::Types) {
-        return NodeVerdict::Refused(Rule::RecordTypes, Place::Record(i));
+        return NodeVerdict::Refused(refusals::TYPES, Place::Record(i));
     }
     if !property_ok(type_among(file, n, property)) {
-        return NodeVerdict::Refused(Rule::PropertyType, Place::Record(property));
+        return NodeVerdict::Refused(refusals::PROPERTY, Place::Record(property));
     }
     NodeVerdict::Accepted {
         streams: n,
@@ -85,17 +85,17 @@ pub fn verdict(file: &[u8]) -> NodeVerdict
 {
     let size = file.len();
     if !length_ok(size) {
-        return NodeVerdict::Refused(Rule::NodeLength, Place::File);
+        return NodeVerdict::Refused(refusals::LENGTH, Place::File);
     }
     let trailer = trailer_of(file);
     if !fixed_ok(trailer) {
-        return NodeVerdict::Refused(Rule::NodeFixedBytes, Place::File);
+        return NodeVerdict::Refused(refusals::FIXED_BYTES, Place::File);
     }
     if !counts_ok(trailer) {
-        return NodeVerdict::Refused(Rule::NodeCounts, Place::File);
+        return NodeVerdict::Refused(refusals::COUNTS, Place::File);
     }
     if !distance_ok(trailer, size) {
-        return NodeVerdict::Refused(Rule::NodeDistance, Place::File);
+        return NodeVerdict::Refused(refusals::DISTANCE, Place::File);
     }
     records_verdict(file, trailer.streams as usize, trailer.property as usize)
 }

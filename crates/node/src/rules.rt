@@ -3,13 +3,14 @@ use crate::layout::Record;
 use crate::layout::Trailer;
 use crate::layout::type_among;
 use crate::table::Limit;
+use crate::table::Operand;
 use crate::table::Row;
 use crate::table::Wanted;
 use crate::table::reads;
 use crate::table::row_of;
 ghost use mathlib.Core.Path.{_≡_};
 ghost use Rattle.node.specs.Layout.{typeAmong};
-ghost use Rattle.node.specs.Rules.{lengthOk, fixedOk, countsOk, distanceOk, within, constantOk, unusedOk, shapeOk, placed, operandsOk, hasType, typesOk, propertyOk};
+ghost use Rattle.node.specs.Rules.{lengthOk, fixedOk, countsOk, distanceOk, within, constantOk, unusedOk, shapeOk, placed, operandsOk, hasType, typed, typesOk, propertyOk};
 
 // Rule 1.
 pub fn length_ok(size: usize) -> bool
@@ -84,10 +85,14 @@ pub fn shape_ok(r: Record) -> bool
 }
 
 // An operand that is read is below n and, where it is needed now, lower than its record.
-fn is_placed(wanted: Wanted, later: bool, n: usize, i: usize, x: usize) -> bool
-    ensures { λ r. ⌜ r ≡ placed wanted later n i x ⌝ }
+fn is_placed(operand: Operand, n: usize, i: usize, x: usize) -> bool
+    ensures { λ r. ⌜ r ≡ placed operand n i x ⌝ }
 {
-    !reads(wanted) | ((x < n) & (later | (x < i)))
+    match operand {
+        Operand::Unused => true,
+        Operand::Now(_) => (x < n) & (x < i),
+        Operand::Before(_) => x < n,
+    }
 }
 
 // Rule 6.
@@ -98,9 +103,9 @@ pub fn operands_ok(n: usize, i: usize, r: Record) -> bool
     let a = row.a;
     let b = row.b;
     let c = row.c;
-    is_placed(a, false, n, i, r.a as usize)
-        & is_placed(b, row.later, n, i, r.b as usize)
-        & is_placed(c, false, n, i, r.c as usize)
+    is_placed(a, n, i, r.a as usize)
+        & is_placed(b, n, i, r.b as usize)
+        & is_placed(c, n, i, r.c as usize)
 }
 
 // A type byte is the one that is wanted, where own is the record's.
@@ -108,10 +113,20 @@ fn has_type(wanted: Wanted, own: u8, kind: u8) -> bool
     ensures { λ r. ⌜ r ≡ hasType wanted own kind ⌝ }
 {
     match wanted {
-        Wanted::Unused => true,
         Wanted::ABool => kind == 0,
         Wanted::AnInt => kind == 1,
         Wanted::Own => kind == own,
+    }
+}
+
+// An operand that is read is of the type that is wanted.
+fn is_typed(operand: Operand, own: u8, kind: u8) -> bool
+    ensures { λ r. ⌜ r ≡ typed operand own kind ⌝ }
+{
+    match operand {
+        Operand::Unused => true,
+        Operand::Now(wanted) => has_type(wanted, own, kind),
+        Operand::Before(wanted) => has_type(wanted, own, kind),
     }
 }
 
@@ -125,9 +140,9 @@ pub fn types_ok(file: &[u8], n: usize, r: Record) -> bool
     let b = row.b;
     let c = row.c;
     has_type(own, r.kind, r.kind)
-        & has_type(a, r.kind, type_among(file, n, r.a as usize))
-        & has_type(b, r.kind, type_among(file, n, r.b as usize))
-        & has_type(c, r.kind, type_among(file, n, r.c as usize))
+        & is_typed(a, r.kind, type_among(file, n, r.a as usize))
+        & is_typed(b, r.kind, type_among(file, n, r.b as usize))
+        & is_typed(c, r.kind, type_among(file, n, r.c as usize))
 }
 
 // Rule 8.

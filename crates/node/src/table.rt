@@ -3,14 +3,21 @@
 ghost use mathlib.Core.Path.{_≡_};
 ghost use Rattle.node.specs.Table.{rowOf, readsIt};
 
-// What an operator asks of an operand, and of the record's own type.
+// The type that an operator asks for.
 pub enum Wanted {
-    // The operator does not read it.
-    Unused,
     ABool,
     AnInt,
     // The record's own type; of the record itself, either.
     Own,
+}
+
+// What an operator does with an operand.
+pub enum Operand {
+    Unused,
+    // It is needed now, as this type.
+    Now(Wanted),
+    // It is read one instant before, as this type.
+    Before(Wanted),
 }
 
 // What an operator asks of the constant K.
@@ -25,151 +32,111 @@ pub enum Limit {
 
 pub struct Row {
     pub own: Wanted,
-    pub a: Wanted,
-    pub b: Wanted,
-    pub c: Wanted,
-    // Operand b is read one instant before, and is not needed now.
-    pub later: bool,
+    pub a: Operand,
+    pub b: Operand,
+    pub c: Operand,
     pub k: Limit,
 }
 
 // 0: input
 const INPUT: Row = Row {
     own: Wanted::Own,
-    a: Wanted::Unused,
-    b: Wanted::Unused,
-    c: Wanted::Unused,
-    later: false,
+    a: Operand::Unused,
+    b: Operand::Unused,
+    c: Operand::Unused,
     k: Limit::Zero,
 };
 
 // 1: K
 const CONSTANT: Row = Row {
     own: Wanted::Own,
-    a: Wanted::Unused,
-    b: Wanted::Unused,
-    c: Wanted::Unused,
-    later: false,
+    a: Operand::Unused,
+    b: Operand::Unused,
+    c: Operand::Unused,
     k: Limit::Value,
 };
 
 // 2: not a
 const NOT: Row = Row {
     own: Wanted::ABool,
-    a: Wanted::ABool,
-    b: Wanted::Unused,
-    c: Wanted::Unused,
-    later: false,
+    a: Operand::Now(Wanted::ABool),
+    b: Operand::Unused,
+    c: Operand::Unused,
     k: Limit::Zero,
 };
 
 // 3: a and b
 const AND: Row = Row {
     own: Wanted::ABool,
-    a: Wanted::ABool,
-    b: Wanted::ABool,
-    c: Wanted::Unused,
-    later: false,
+    a: Operand::Now(Wanted::ABool),
+    b: Operand::Now(Wanted::ABool),
+    c: Operand::Unused,
     k: Limit::Zero,
 };
 
 // 4: a or b
-const OR: Row = Row {
-    own: Wanted::ABool,
-    a: Wanted::ABool,
-    b: Wanted::ABool,
-    c: Wanted::Unused,
-    later: false,
-    k: Limit::Zero,
-};
+const OR: Row = AND;
 
 // 5: a same as b
-const SAME: Row = Row {
-    own: Wanted::ABool,
-    a: Wanted::ABool,
-    b: Wanted::ABool,
-    c: Wanted::Unused,
-    later: false,
-    k: Limit::Zero,
-};
+const SAME: Row = AND;
 
 // 6: a + b
 const SUM: Row = Row {
     own: Wanted::AnInt,
-    a: Wanted::AnInt,
-    b: Wanted::AnInt,
-    c: Wanted::Unused,
-    later: false,
+    a: Operand::Now(Wanted::AnInt),
+    b: Operand::Now(Wanted::AnInt),
+    c: Operand::Unused,
     k: Limit::Zero,
 };
 
 // 7: a - b
-const DIFFERENCE: Row = Row {
-    own: Wanted::AnInt,
-    a: Wanted::AnInt,
-    b: Wanted::AnInt,
-    c: Wanted::Unused,
-    later: false,
-    k: Limit::Zero,
-};
+const DIFFERENCE: Row = SUM;
 
 // 8: K * a
 const MULTIPLE: Row = Row {
     own: Wanted::AnInt,
-    a: Wanted::AnInt,
-    b: Wanted::Unused,
-    c: Wanted::Unused,
-    later: false,
+    a: Operand::Now(Wanted::AnInt),
+    b: Operand::Unused,
+    c: Operand::Unused,
     k: Limit::Factor,
 };
 
 // 9: a at most b
 const AT_MOST: Row = Row {
     own: Wanted::ABool,
-    a: Wanted::AnInt,
-    b: Wanted::AnInt,
-    c: Wanted::Unused,
-    later: false,
+    a: Operand::Now(Wanted::AnInt),
+    b: Operand::Now(Wanted::AnInt),
+    c: Operand::Unused,
     k: Limit::Zero,
 };
 
 // 10: a equal to b
-const EQUAL: Row = Row {
-    own: Wanted::ABool,
-    a: Wanted::AnInt,
-    b: Wanted::AnInt,
-    c: Wanted::Unused,
-    later: false,
-    k: Limit::Zero,
-};
+const EQUAL: Row = AT_MOST;
 
 // 11: if c then a else b
 const IF: Row = Row {
     own: Wanted::Own,
-    a: Wanted::Own,
-    b: Wanted::Own,
-    c: Wanted::ABool,
-    later: false,
+    a: Operand::Now(Wanted::Own),
+    b: Operand::Now(Wanted::Own),
+    c: Operand::Now(Wanted::ABool),
     k: Limit::Zero,
 };
 
 // 12: a -> b
 const ARROW: Row = Row {
     own: Wanted::Own,
-    a: Wanted::Own,
-    b: Wanted::Own,
-    c: Wanted::Unused,
-    later: false,
+    a: Operand::Now(Wanted::Own),
+    b: Operand::Now(Wanted::Own),
+    c: Operand::Unused,
     k: Limit::Zero,
 };
 
 // 13: a -> pre b
 const FOLLOWED_BY: Row = Row {
     own: Wanted::Own,
-    a: Wanted::Own,
-    b: Wanted::Own,
-    c: Wanted::Unused,
-    later: true,
+    a: Operand::Now(Wanted::Own),
+    b: Operand::Before(Wanted::Own),
+    c: Operand::Unused,
     k: Limit::Zero,
 };
 
@@ -197,13 +164,12 @@ pub fn row_of(op: u8) -> Row
 }
 
 // Whether an operator reads the operand at all.
-pub fn reads(wanted: Wanted) -> bool
-    ensures { λ r. ⌜ r ≡ readsIt wanted ⌝ }
+pub fn reads(operand: Operand) -> bool
+    ensures { λ r. ⌜ r ≡ readsIt operand ⌝ }
 {
-    match wanted {
-        Wanted::Unused => false,
-        Wanted::ABool => true,
-        Wanted::AnInt => true,
-        Wanted::Own => true,
+    match operand {
+        Operand::Unused => false,
+        Operand::Now(_) => true,
+        Operand::Before(_) => true,
     }
 }

@@ -18,10 +18,6 @@ pub fn write_line(verdict: CertificateVerdict, out: &mut [u8; 96]) -> usize
         CertificateVerdict::Accepted { depth, base, step } => {
             lines::put_accepted(out, depth, base, step)
         }
-        CertificateVerdict::Refused(rule, place) => lines::put_refused(
-            out,
-            answers::number(rule),
-            place,
-        ),
+        CertificateVerdict::Refused(number, place) => lines::put_refused(out, number, place),
     }
 }

@@ -24,6 +24,11 @@ use Rattle.rules.specs.Satisfaction.{Valuation, patternTrue, clauseTrue}
 abbrev pub AllTrue : Valuation → List Clause → Type 0
 AllTrue w = All (λ c. clauseTrue w c ≡ true)
 
+-- what each of a list has, each has that is made of one
+pub all-map : {A : Type 0} (P Q : A → Type 0) (f : A → A) → ((x : A) → P x → Q (f x)) → (xs : List A) → All P xs → All Q (map f xs)
+all-map P Q f step [] ps = tt
+all-map P Q f step (x ∷ xs) ps = (step x (ps .0), all-map P Q f step xs (ps .1))
+
 -- ---- constraints on two streams
 
 -- x − y as a clause's constraint has it

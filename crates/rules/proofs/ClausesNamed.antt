@@ -1,6 +1,6 @@
 -- Each operator's clauses have at least one literal, and only variables of the stream and of its operands.
 -- Assumes nothing.
-use mathlib.Core.List.{List}
+use mathlib.Core.List.{List, map}
 use mathlib.Core.Bool.{Bool, true, false, cond}
 use Prim.Native.Nat.{ℕ, _≤_, _<_}
 use native.Mathlib.Omega.{arith}
@@ -11,13 +11,15 @@ use Rattle.node.specs.declared.equation.Kind.the-variants.{Bool as BoolKind, In
 use Rattle.node.specs.declared.equation.Equation.{Equation}
 use Rattle.node.specs.declared.equation.Equation.the-variants.{Input, Constant, Not, And, Or, Same, Sum, Difference, Multiple, AtMost, Equal, If, Arrow, FollowedBy}
 use Rattle.node.specs.Reads.{All, Read, reads}
+use Rattle.node.proofs.WellFormedness.{all-append}
 use Rattle.constraints.proofs.Totals.{Below}
 use Rattle.rules.specs.declared.pattern.Clause.{Clause}
 use Rattle.rules.specs.declared.pattern.Pattern.{Pattern}
 use Rattle.rules.specs.declared.pattern.Pattern.the-variants.{Yes, No, Most}
 use Rattle.rules.specs.declared.pattern.Place.{Place}
 use Rattle.rules.specs.declared.pattern.Place.the-variants.{Opening, Unsure, Inner}
-use Rattle.rules.specs.Clauses.{boundedOf, most, less, clause1, clause2, clause3, equalTo, sameAs, clauses}
+use Rattle.rules.specs.Clauses.{boundedOf, most, less, clause1, clause2, clause3, equalTo, sameAs, guarded, firstThen, clauses}
+use Rattle.rules.proofs.ClauseForms.{all-map}
 
 -- a literal whose variables are below n
 abbrev pub LiteralBelow : (n : ℕ) → Pattern → Type 0
@@ -64,6 +66,17 @@ module _ (n : ℕ) where
   same-below BoolKind s t l m = (two (No s) (Yes t) l m, (two (Yes s) (No t) l m, tt))
   same-below IntKind s t l m = (one (most s t) (most-below s t l m), (one (most t s) (most-below t s m l), tt))
 
+  guarded-below : (kind : Kind) (p : Pattern) (s t : ℕ) → LiteralBelow n p → s < n → t < n → AllBelow (map (guarded p) (sameAs kind s t))
+  guarded-below kind p s t o l m =
+      all-map (ClauseBelow n) (ClauseBelow n) (guarded p)
+      (λ c b. record { some = omega arith; first = o; second = b .first; third = b .second })
+      (sameAs kind s t) (same-below kind s t l m)
+
+  first-then-below : (kind : Kind) (place : Place) (s x y : ℕ) → s < n → x < n → y < n → AllBelow (firstThen kind place s x y)
+  first-then-below kind Opening s x y l m o = same-below kind s x l m
+  first-then-below kind Unsure s x y l m o = tt
+  first-then-below kind Inner s x y l m o = same-below kind s y l o
+
   -- ---- the operators
 
   module _ (now back : ℕ → ℕ) (s : ℕ) (own : s < n) (kind : Kind) where
@@ -74,39 +87,6 @@ module _ (n : ℕ) where
         go true = own
         go false = own
     constant-below IntKind k place = equal-below s (pos 0) s (pos 0) s k own own own
-
-    -- whichever of the two the guard chooses
-    if-below : (own-kind : Kind) (a b c : ℕ) (place : Place) → now a < n → now b < n → now c < n → AllBelow (clauses own-kind (If a b c) place now back s)
-    if-below BoolKind a b c place l m o = (
-      record { some = omega arith; first = o; second = own; third = l },
-      (
-        record { some = omega arith; first = o; second = own; third = l },
-        (
-          record { some = omega arith; first = o; second = own; third = m },
-          (record { some = omega arith; first = o; second = own; third = m }, tt),
-        ),
-      ),
-    )
-    if-below IntKind a b c place l m o = (
-      record { some = omega arith; first = o; second = most-below s (now a) own l; third = most-below s (now a) own l },
-      (
-        record { some = omega arith; first = o; second = most-below (now a) s l own; third = most-below (now a) s l own },
-        (
-          record { some = omega arith; first = o; second = most-below s (now b) own m; third = most-below s (now b) own m },
-          (record { some = omega arith; first = o; second = most-below (now b) s m own; third = most-below (now b) s m own }, tt),
-        ),
-      ),
-    )
-
-    arrow-below : (a b : ℕ) (place : Place) → now a < n → now b < n → AllBelow (clauses kind (Arrow a b) place now back s)
-    arrow-below a b Opening l m = same-below kind s (now a) own l
-    arrow-below a b Unsure l m = tt
-    arrow-below a b Inner l m = same-below kind s (now b) own m
-
-    followed-below : (a b : ℕ) (place : Place) → now a < n → back b < n → AllBelow (clauses kind (FollowedBy a b) place now back s)
-    followed-below a b Opening l m = same-below kind s (now a) own l
-    followed-below a b Unsure l m = tt
-    followed-below a b Inner l m = same-below kind s (back b) own m
 
     pub clauses-below : (e : Equation) (place : Place) → All (OperandBelow n now back) (reads e) → AllBelow (clauses kind e place now back s)
     clauses-below Input place r = tt
@@ -153,6 +133,9 @@ module _ (n : ℕ) where
             (three (Yes s) (less (now a) (now b)) (less (now b) (now a)) own (less-below (now a) (now b) l m) (less-below (now b) (now a) m l), tt),
           ),
         )
-    clauses-below (If a b c) place r = if-below kind a b c place (r .0 .0) (r .1 .0 .0) (r .1 .1 .0 .0)
-    clauses-below (Arrow a b) place r = arrow-below a b place (r .0 .0) (r .1 .0 .0)
-    clauses-below (FollowedBy a b) place r = followed-below a b place (r .0 .0) (r .1 .0 .1)
+    clauses-below (If a b c) place r =
+        all-append _ (map (guarded (No (now c))) (sameAs kind s (now a))) (map (guarded (Yes (now c))) (sameAs kind s (now b)))
+        (guarded-below kind (No (now c)) s (now a) (r .1 .1 .0 .0) own (r .0 .0))
+        (guarded-below kind (Yes (now c)) s (now b) (r .1 .1 .0 .0) own (r .1 .0 .0))
+    clauses-below (Arrow a b) place r = first-then-below kind place s (now a) (now b) own (r .0 .0) (r .1 .0 .0)
+    clauses-below (FollowedBy a b) place r = first-then-below kind place s (now a) (back b) own (r .0 .0) (r .1 .0 .1)

@@ -63,6 +63,12 @@ sameAs IntKind s t = clause1 (most s t) ∷ clause1 (most t s) ∷ []
 abbrev pub guarded : Pattern → Clause → Clause
 guarded p c = record { count = suc (c .count); first = p; second = c .first; third = c .second }
 
+-- operators 12 and 13: at instant 0 the one stream, later the other; none where either may be
+abbrev pub firstThen : Kind → Place → (s first later : ℕ) → List Clause
+firstThen kind Opening s first later = sameAs kind s first
+firstThen kind Unsure s first later = []
+firstThen kind Inner s first later = sameAs kind s later
+
 -- the clauses of stream s, by its equation: `now` is a stream at the same offset, `back` one lower
 abbrev pub clauses : Kind → Equation → Place → (now back : ℕ → ℕ) → (s : ℕ) → List Clause
 clauses kind Input at now back s = []
@@ -90,12 +96,8 @@ clauses kind (Equal a b) at now back s =
     ∷ []
 clauses kind (If a b c) at now back s =
     map (guarded (No (now c))) (sameAs kind s (now a)) ++ map (guarded (Yes (now c))) (sameAs kind s (now b))
-clauses kind (Arrow a b) Opening now back s = sameAs kind s (now a)
-clauses kind (Arrow a b) Unsure now back s = []
-clauses kind (Arrow a b) Inner now back s = sameAs kind s (now b)
-clauses kind (FollowedBy a b) Opening now back s = sameAs kind s (now a)
-clauses kind (FollowedBy a b) Unsure now back s = []
-clauses kind (FollowedBy a b) Inner now back s = sameAs kind s (back b)
+clauses kind (Arrow a b) at now back s = firstThen kind at s (now a) (now b)
+clauses kind (FollowedBy a b) at now back s = firstThen kind at s (now a) (back b)
 
 -- "clause r, counted from 0"
 abbrev pub numbered : List Clause → ℕ → Named

@@ -38,7 +38,7 @@ fn begun_on(file: &[u8]) -> Session
             streams,
             property: _,
         } => say::number(b"begun streams ", streams),
-        NodeVerdict::Refused(rule, place) => say::refused(rule, place),
+        NodeVerdict::Refused(number, place) => say::refused(number, place),
     }
     say::text(b"\n");
     t.session
@@ -66,8 +66,8 @@ fn say_kept(slice: &[i64]) {
 fn say_answer(answer: InstantVerdict, slice: &[i64]) {
     match answer {
         InstantVerdict::Answered => say::answered(slice),
-        InstantVerdict::Refused(rule, place) => {
-            say::refused(rule, place);
+        InstantVerdict::Refused(number, place) => {
+            say::refused(number, place);
             say_kept(slice);
         }
     }

@@ -1,7 +1,6 @@
 // The words of a line, on standard output.
 use answers::CertificateVerdict;
 use answers::Place;
-use answers::Rule;
 use integers::magnitude;
 use libc::STDOUT_FILENO;
 
@@ -15,9 +14,9 @@ pub fn number(before: &[u8], n: usize) {
 }
 
 // A refusal, as the line of a verdict has it but for its end.
-pub fn refused(rule: Rule, place: Place) {
+pub fn refused(number: usize, place: Place) {
     let mut line = [0u8; 96];
-    let length = report::write_line(CertificateVerdict::Refused(rule, place), &mut line);
+    let length = report::write_line(CertificateVerdict::Refused(number, place), &mut line);
     if 0 < length {
         text(&line[..length - 1]);
     }

@@ -11,11 +11,10 @@ use lib.IntN.{ℤ, pos}
 use lib.ListN.{length, take}
 use Rattle.answers.specs.declared.Place.{Place}
 use Rattle.answers.specs.declared.Place.the-variants.{File, Record as AtRecord}
-use Rattle.answers.specs.declared.Rule.{Rule}
 use Rattle.answers.specs.declared.InstantVerdict.{InstantVerdict}
 use Rattle.answers.specs.declared.InstantVerdict.the-variants.{Refused}
 use Rattle.answers.specs.declared.Found.the-variants.{At, Nothing}
-use Rattle.answers.specs.Answer.{Answer, accepted, refused, numberOf, instantAnswer, NodeValues, ifAccepted, isAccepted}
+use Rattle.answers.specs.Answer.{Answer, accepted, refused, instantAnswer, NodeValues, ifAccepted, isAccepted}
 use Rattle.answers.specs.Checks.{every, lowest}
 use Rattle.answers.proofs.InARow.{by-check}
 use Rattle.answers.proofs.Tests.{both-true}
@@ -106,7 +105,7 @@ module _ (s : Session) (inputs : List ℤ) (room : ℕ) where
           answer-none e = rw (holds, count, sized, typed, e)
 
   -- the outcome of a refusal: it owes no values
-  pub refusal : {answer : InstantVerdict} {rule : Rule} {place : Place} (values : List ℤ) → answer ≡ Refused rule place → refused (numberOf rule) place ≡ answerOf s inputs room → (instantAnswer answer ≡ answerOf s inputs room) × (instantAnswer answer ≡ accepted tt → values ≡ filled 64 (pos 0) (workedOut s inputs))
+  pub refusal : {answer : InstantVerdict} {number : ℕ} {place : Place} (values : List ℤ) → answer ≡ Refused number place → refused number place ≡ answerOf s inputs room → (instantAnswer answer ≡ answerOf s inputs room) × (instantAnswer answer ≡ accepted tt → values ≡ filled 64 (pos 0) (workedOut s inputs))
   refusal values e f = (ap instantAnswer e ∙ f, λ a. not-answered (sym (ap instantAnswer e) ∙ a))
 
   -- ---- what an answered call has passed

@@ -55,8 +55,8 @@ pub fn begun(s: Session, file: &[u8]) -> BegunSession
             answer: NodeVerdict::Accepted { streams, property },
             session: session_on(file, streams, property),
         },
-        NodeVerdict::Refused(rule, place) => BegunSession {
-            answer: NodeVerdict::Refused(rule, place),
+        NodeVerdict::Refused(number, place) => BegunSession {
+            answer: NodeVerdict::Refused(number, place),
             session: s,
         },
     }

@@ -5,6 +5,7 @@ mod inputs;
 mod lent;
 mod numbers;
 mod outcomes;
+mod refusals;
 mod stepping;
 mod values;
 

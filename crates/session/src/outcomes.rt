@@ -3,11 +3,11 @@ use crate::Session;
 use crate::holding::Held;
 use crate::holding::node_held;
 use crate::inputs::first_bad;
+use crate::refusals;
 use crate::values::worked_out;
 use answers::Found;
 use answers::InstantVerdict;
 use answers::Place;
-use answers::Rule;
 use node::input_count;
 ghost use mathlib.Core.Path.{_≡_};
 ghost use lib.IntN.{pos};
@@ -22,11 +22,11 @@ pub struct Outcome {
 }
 
 // A refusal has no values.
-fn refused(rule: Rule, place: Place) -> Outcome
-    ensures { λ r. ⌜ r .answer ≡ InstantVerdict.Refused rule place ⌝ }
+fn refused(number: usize, place: Place) -> Outcome
+    ensures { λ r. ⌜ r .answer ≡ InstantVerdict.Refused number place ⌝ }
 {
     Outcome {
-        answer: InstantVerdict::Refused(rule, place),
+        answer: InstantVerdict::Refused(number, place),
         values: [0i64; 64],
     }
 }
@@ -40,22 +40,22 @@ pub fn outcome_of(s: Session, inputs: &[i64], room: usize) -> Outcome
     let file = s.file;
     let last = s.last;
     let Held::Streams(n) = node_held(&file, length, s.started, &last) else {
-        return refused(Rule::NoNode, Place::File);
+        return refused(refusals::NO_NODE, Place::File);
     };
     let node = &file[..length];
     if inputs.len() != input_count(node) {
-        return refused(Rule::InputCount, Place::File);
+        return refused(refusals::INPUT_COUNT, Place::File);
     }
     if room != n {
-        return refused(Rule::SliceLength, Place::File);
+        return refused(refusals::SLICE_LENGTH, Place::File);
     }
     if let Found::At(i) = first_bad(node, inputs, n) {
-        return refused(Rule::BoolInput, Place::Record(i));
+        return refused(refusals::BOOL_INPUT, Place::Record(i));
     }
     let worked = worked_out(node, inputs, !s.started, &last, n);
     let outside = worked.outside;
     if let Found::At(i) = outside {
-        return refused(Rule::OutsideRange, Place::Record(i));
+        return refused(refusals::OUTSIDE_RANGE, Place::Record(i));
     }
     let values = worked.values;
     Outcome {

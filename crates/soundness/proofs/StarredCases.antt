@@ -34,7 +34,7 @@ use Rattle.session.proofs.CallAnswers.{accepted-right}
 use Rattle.session.proofs.JustBegun.{begun-stands}
 use Rattle.session.proofs.Standing.{worked-out-is}
 use Rattle.soundness.specs.Files.{rec, nodeFile, noughts, minusOne, atMost, line, certificateFile}
-use Rattle.soundness.specs.Starred.{FirstCall, Answers, checks, reads, refuses, twoBands, doubling, ofSize, twoInts, opposites, constantTrue, ofDepth, withoutLines, bothAsked, greatestDoubled, leastDoubled, cases, Holds, Starred}
+use Rattle.soundness.specs.Starred.{FirstCall, Answers, checks, reads, refuses, twoBands, doubling, ofSize, constantTrue, ofDepth, trueAndInts, opposites, bandsWhole, stepAlone, bothAsked, greatestDoubled, leastDoubled, cases, Holds, Starred}
 
 -- what is computed of a first call: the verdict on its file, the answer and the values
 record Computed (c : FirstCall) : Type 0 where
@@ -84,12 +84,12 @@ least-doubled : Computed leastDoubled
 unfolding doubling rec nodeFile nodeVerdict recordsVerdict lengthOk fixedOk countsOk distanceOk lowest shapeOk unusedOk operandsOk typesOk propertyOk rowOf recordsOf recordOf twosComplement every kindAt decoded inputsBelow noteLength upTo evaluated instant equals truth inputFits workedOut valueFits answerOf holdsNode inside
 least-doubled = record { node = record { streams = 3; property = 2 }; is-accepted = refl; answered = refl; values = refl }
 
-opposites-pass : Holds (checks twoInts (opposites (minusOne 8) (noughts 8)) (refused 21 Base))
-unfolding twoInts opposites atMost rec nodeFile nodeVerdict recordsVerdict lengthOk fixedOk countsOk distanceOk lowest shapeOk unusedOk operandsOk typesOk propertyOk rowOf recordsOf recordOf twosComplement line certificateFile certFixed certCounts certDistance verdictOf certificateVerdict constraintsVerdict linesVerdict every shapePasses lineShape slotOk numbersOk namesAtom kindPasses kindOk kindAt decoded constraintOk termOk usedOk rises termUnused written sumOf arithmeticOk
+opposites-pass : Holds (checks trueAndInts (opposites (minusOne 8) (noughts 8)) (accepted (record { depth = 1; base = 4; step = 3 })))
+unfolding trueAndInts opposites atMost rec nodeFile nodeVerdict recordsVerdict lengthOk fixedOk countsOk distanceOk lowest shapeOk unusedOk operandsOk typesOk propertyOk rowOf recordsOf recordOf twosComplement line certificateFile certFixed certCounts certDistance verdictOf certificateVerdict constraintsVerdict linesVerdict every shapePasses lineShape slotOk numbersOk namesAtom kindPasses kindOk kindAt decoded equationIn clauseIs basePropertyOk stepPropertyOk standsFrom joins joinOk constraintOk termOk usedOk rises termUnused written sumOf arithmeticOk
 opposites-pass = refl
 
-opposites-fail : Holds (checks twoInts (opposites (noughts 8) (noughts 8)) (refused 20 (AtLine 0)))
-unfolding twoInts opposites atMost rec nodeFile nodeVerdict recordsVerdict lengthOk fixedOk countsOk distanceOk lowest shapeOk unusedOk operandsOk typesOk propertyOk rowOf recordsOf recordOf twosComplement line certificateFile certFixed certCounts certDistance verdictOf certificateVerdict constraintsVerdict linesVerdict every shapePasses lineShape slotOk numbersOk namesAtom kindPasses kindOk kindAt decoded constraintOk termOk usedOk rises termUnused written sumOf arithmeticOk
+opposites-fail : Holds (checks trueAndInts (opposites (noughts 8) (noughts 8)) (refused 20 (AtLine 3)))
+unfolding trueAndInts opposites atMost rec nodeFile nodeVerdict recordsVerdict lengthOk fixedOk countsOk distanceOk lowest shapeOk unusedOk operandsOk typesOk propertyOk rowOf recordsOf recordOf twosComplement line certificateFile certFixed certCounts certDistance verdictOf certificateVerdict constraintsVerdict linesVerdict every shapePasses lineShape slotOk numbersOk namesAtom kindPasses kindOk kindAt decoded equationIn clauseIs basePropertyOk stepPropertyOk standsFrom joins joinOk constraintOk termOk usedOk rises termUnused written sumOf arithmeticOk
 opposites-fail = refl
 
 depth-8 : Holds (checks constantTrue (ofDepth 8) (accepted (record { depth = 8; base = 17; step = 3 })))
@@ -108,11 +108,15 @@ size-65 : Holds (reads (ofSize 65) (refused 3 File))
 unfolding ofSize rec nodeFile nodeVerdict recordsVerdict lengthOk fixedOk countsOk distanceOk lowest shapeOk unusedOk operandsOk typesOk propertyOk rowOf recordsOf recordOf twosComplement
 size-65 = refl
 
-no-base-lines : Holds (checks twoBands withoutLines (refused 21 Base))
-unfolding twoBands withoutLines rec nodeFile nodeVerdict recordsVerdict lengthOk fixedOk countsOk distanceOk lowest shapeOk unusedOk operandsOk typesOk propertyOk rowOf recordsOf recordOf twosComplement line certificateFile certFixed certCounts certDistance verdictOf certificateVerdict constraintsVerdict linesVerdict every shapePasses lineShape slotOk numbersOk namesAtom kindPasses kindOk kindAt decoded
+bands-whole : Holds (checks twoBands bandsWhole (accepted (record { depth = 1; base = 12; step = 12 })))
+unfolding twoBands bandsWhole rec nodeFile nodeVerdict recordsVerdict lengthOk fixedOk countsOk distanceOk lowest shapeOk unusedOk operandsOk typesOk propertyOk rowOf recordsOf recordOf twosComplement line certificateFile certFixed certCounts certDistance verdictOf certificateVerdict constraintsVerdict linesVerdict every shapePasses lineShape slotOk numbersOk namesAtom kindPasses kindOk kindAt decoded equationIn clauseIs basePropertyOk stepPropertyOk standsFrom joins joinOk
+bands-whole = refl
+
+no-base-lines : Holds (checks twoBands stepAlone (refused 21 Base))
+unfolding twoBands stepAlone rec nodeFile nodeVerdict recordsVerdict lengthOk fixedOk countsOk distanceOk lowest shapeOk unusedOk operandsOk typesOk propertyOk rowOf recordsOf recordOf twosComplement line certificateFile certFixed certCounts certDistance verdictOf certificateVerdict constraintsVerdict linesVerdict every shapePasses lineShape slotOk numbersOk namesAtom kindPasses kindOk kindAt decoded equationIn clauseIs basePropertyOk stepPropertyOk standsFrom joins joinOk
 no-base-lines = refl
 
 pub starred : Starred
 unfolding cases
 starred =
-    (answers-by bothAsked both-asked, (refl, (refl, (answers-by greatestDoubled greatest-doubled, (one-more, (answers-by leastDoubled least-doubled, (opposites-pass, (opposites-fail, (depth-8, (depth-9, (size-64, (size-65, (no-base-lines, tt)))))))))))))
+    (answers-by bothAsked both-asked, (refl, (refl, (answers-by greatestDoubled greatest-doubled, (one-more, (answers-by leastDoubled least-doubled, (opposites-pass, (opposites-fail, (depth-8, (depth-9, (size-64, (size-65, (bands-whole, (no-base-lines, tt))))))))))))))

@@ -37,10 +37,13 @@ plusOne n = padded n (1 ∷ [])
 abbrev pub minusOne : (n : ℕ) → List ℕ
 minusOne n = replicate n 255
 
--- "term count, seven zero bytes, i64 bound, eight terms of u16 stream, u8 offset, zero byte, i32 coefficient": a·0 + b·1 at offset 0
--- is at most the bound, each number by its bytes
-unfoldable pub atMost : (a b bound : List ℕ) → List ℕ
-atMost a b bound = padded 80 ((2 ∷ noughts 7) ++ bound ++ (noughts 4 ++ a) ++ (plusOne 4 ++ b))
+-- "u16 stream, u8 offset (0 to k), zero byte, i32 coefficient", at offset 0
+abbrev pub term : (stream : ℕ) → (coefficient : List ℕ) → List ℕ
+term stream coefficient = u16 stream ++ noughts 2 ++ coefficient
+
+-- "term count (0 to 8), seven zero bytes, i64 bound (within ±100,000,000,000), eight terms": the used ones
+unfoldable pub atMost : (terms : List (List ℕ)) → (bound : List ℕ) → List ℕ
+atMost terms bound = padded 80 ((length terms ∷ noughts 7) ++ bound ++ foldr _++_ [] terms)
 
 -- "kind byte, literal count byte, u16 p, q, r, twelve u16 literals, twelve u32 multipliers": the listed ones
 unfoldable pub line : (kind p q r : ℕ) → (literals multipliers : List ℕ) → List ℕ

@@ -19,7 +19,7 @@ use Rattle.streams.specs.Typing.{Inputs, TypedInstant}
 use Rattle.streams.specs.Values.{valuesIn}
 use Rattle.session.specs.Instants.{answerOf, sliceOf}
 use Rattle.session.specs.Records.{begun}
-use Rattle.soundness.specs.Files.{rec, nodeFile, noughts, plusOne, minusOne, atMost, line, certificateFile}
+use Rattle.soundness.specs.Files.{rec, nodeFile, noughts, plusOne, minusOne, term, atMost, line, certificateFile}
 
 -- a just begun session's first call: its inputs, one number an input, and the values that it leaves, one number a stream
 pub record FirstCall : Type 0 where
@@ -60,31 +60,25 @@ doubling = nodeFile (rec 0 1 0 0 0 0 ∷ rec 6 1 0 0 0 0 ∷ rec 1 0 0 0 0 1 ∷
 unfoldable pub ofSize : (n : ℕ) → List ℕ
 ofSize n = nodeFile (replicate n (rec 0 0 0 0 0 0)) 0
 
--- 0 and 1 int inputs; 2 the constant true, the property
-unfoldable pub twoInts : List ℕ
-twoInts = nodeFile (rec 0 1 0 0 0 0 ∷ rec 0 1 0 0 0 0 ∷ rec 1 0 0 0 0 1 ∷ []) 2
-
--- one base line, of kind 4, with multipliers 1 and 1: its literals are the negations of "0 − 1 at most" one bound and "1 − 0 at most"
--- another, so that these two are its opposites
-unfoldable pub opposites : (one other : List ℕ) → List ℕ
-opposites one other =
-    certificateFile 1
-    (atMost (plusOne 4) (minusOne 4) one ∷ atMost (minusOne 4) (plusOne 4) other ∷ [])
-    (line 4 0 0 0 (negative 576 ∷ negative 577 ∷ []) (1 ∷ 1 ∷ []) ∷ [])
-    []
-
 -- 0 the constant true, the property
 unfoldable pub constantTrue : List ℕ
 constantTrue = nodeFile (rec 1 0 0 0 0 1 ∷ []) 0
 
+-- stream s at offset j, and its negation, as literals
+abbrev is : (j s : ℕ) → ℕ
+is j s = 2 * variable j s
+
+abbrev isNot : (j s : ℕ) → ℕ
+isNot j s = negative (variable j s)
+
 -- the property at offset j
 abbrev prop : (j : ℕ) → ℕ
-prop j = 2 * variable j 0
+prop j = is j 0
 
 -- not-prop at the offsets from j on
 abbrev negations : (j left : ℕ) → List ℕ
 negations j zero = []
-negations j (suc left) = suc (prop j) ∷ negations (suc j) left
+negations j (suc left) = isNot j 0 ∷ negations (suc j) left
 
 -- the equations at the offsets from j on, lines 1 and on
 abbrev equations : (j left : ℕ) → List (List ℕ)
@@ -96,19 +90,59 @@ abbrev strikes : (last j left : ℕ) → (at : ℕ) → List (List ℕ)
 strikes last j zero at = []
 strikes last j (suc left) at = line 3 (suc j) last (prop j) (negations (suc j) left) [] ∷ strikes at (suc j) left (suc at)
 
--- a whole certificate for it at depth k: the base strikes the property line's literals one by one, the step has one literal to strike
-unfoldable pub ofDepth : (k : ℕ) → List ℕ
-ofDepth k =
-    certificateFile k []
-    ((line 2 0 0 0 (negations 0 k) [] ∷ equations 0 k) ++ strikes 0 0 k (k + 1))
-    (line 2 0 k 0 (suc (prop k) ∷ []) []
-    ∷ line 1 0 k 0 (prop k ∷ []) []
-    ∷ line 3 (2 * k + 2) (2 * k + 1) (prop k) [] []
-    ∷ [])
+-- the base of depth k strikes the property line's literals one by one
+abbrev base : (k : ℕ) → List (List ℕ)
+base k = (line 2 0 0 0 (negations 0 k) [] ∷ equations 0 k) ++ strikes 0 0 k (k + 1)
 
--- no lines at all
-unfoldable pub withoutLines : List ℕ
-withoutLines = certificateFile 1 [] [] []
+-- the step, its lines numbered from `first` on, has one literal to strike
+abbrev step : (first k : ℕ) → List (List ℕ)
+step first k =
+    line 2 0 k 0 (isNot k 0 ∷ []) []
+    ∷ line 1 0 k 0 (prop k ∷ []) []
+    ∷ line 3 (first + 1) first (prop k) [] []
+    ∷ []
+
+-- a whole certificate for it at depth k
+unfoldable pub ofDepth : (k : ℕ) → List ℕ
+ofDepth k = certificateFile k [] (base k) (step (2 * k + 1) k)
+
+-- 0 the constant true, the property; 1 and 2 int inputs
+unfoldable pub trueAndInts : List ℕ
+trueAndInts = nodeFile (rec 1 0 0 0 0 1 ∷ rec 0 1 0 0 0 0 ∷ rec 0 1 0 0 0 0 ∷ []) 0
+
+-- a whole certificate for it whose last base line, 3, is of kind 4 with multipliers 1 and 1: its literals are the negations of
+-- "1 − 2 at most" one bound and "2 − 1 at most" another, so that these two are its opposites
+unfoldable pub opposites : (one other : List ℕ) → List ℕ
+opposites one other =
+    certificateFile 1
+    (atMost (term 1 (plusOne 4) ∷ term 2 (minusOne 4) ∷ []) one ∷ atMost (term 1 (minusOne 4) ∷ term 2 (plusOne 4) ∷ []) other ∷ [])
+    (base 1 ++ line 4 0 0 0 (negative 576 ∷ negative 577 ∷ []) (1 ∷ 1 ∷ []) ∷ [])
+    (step 4 1)
+
+-- "{!5}, {5, 4}, join {4}, {!4, 0}, join {0}, {!4, 3}, join {3}, {!3, 2}, join {2}, {!2, !0}, join {!0}, join { }: 12 lines", at an
+-- offset, its lines numbered from `first` on
+abbrev bands : (offset first : ℕ) → List (List ℕ)
+bands j first =
+    line 2 0 j 0 (isNot j 5 ∷ []) []
+    ∷ line 1 5 j 0 (is j 5 ∷ is j 4 ∷ []) []
+    ∷ line 3 first (first + 1) (isNot j 5) (is j 4 ∷ []) []
+    ∷ line 1 4 j 0 (isNot j 4 ∷ is j 0 ∷ []) []
+    ∷ line 3 (first + 2) (first + 3) (is j 4) (is j 0 ∷ []) []
+    ∷ line 1 4 j 1 (isNot j 4 ∷ is j 3 ∷ []) []
+    ∷ line 3 (first + 2) (first + 5) (is j 4) (is j 3 ∷ []) []
+    ∷ line 1 3 j 1 (isNot j 3 ∷ is j 2 ∷ []) []
+    ∷ line 3 (first + 6) (first + 7) (is j 3) (is j 2 ∷ []) []
+    ∷ line 1 2 j 1 (isNot j 2 ∷ isNot j 0 ∷ []) []
+    ∷ line 3 (first + 8) (first + 9) (is j 2) (isNot j 0 ∷ []) []
+    ∷ line 3 (first + 4) (first + 10) (is j 0) [] []
+    ∷ []
+
+-- the two bands' certificate, whole, and with its step alone
+unfoldable pub bandsWhole : List ℕ
+bandsWhole = certificateFile 1 [] (bands 0 0) (bands 1 12)
+
+unfoldable pub stepAlone : List ℕ
+stepAlone = certificateFile 1 [] [] (bands 1 0)
 
 -- both bands are asked for at once
 abbrev pub bothAsked : FirstCall
@@ -148,17 +182,17 @@ cases =
     ∷ refuses doubling (pos 4611686018427387904 ∷ []) 34 (AtRecord 1)
     ∷ answers leastDoubled
     -- "*Opposites "u − v at most −1" and "v − u at most 0" pass as kind 4, multipliers 1 and 1; *with both bounds 0 it is 20."
-    -- Where the line passes, an empty one is missing.
-    ∷ checks twoInts (opposites (minusOne 8) (noughts 8)) (refused 21 Base)
-    ∷ checks twoInts (opposites (noughts 8) (noughts 8)) (refused 20 (AtLine 0))
+    ∷ checks trueAndInts (opposites (minusOne 8) (noughts 8)) (accepted (record { depth = 1; base = 4; step = 3 }))
+    ∷ checks trueAndInts (opposites (noughts 8) (noughts 8)) (refused 20 (AtLine 3))
     -- "*Depth 8 passes, *9 is 13."
     ∷ checks constantTrue (ofDepth 8) (accepted (record { depth = 8; base = 17; step = 3 }))
     ∷ checks constantTrue (ofDepth 9) (refused 13 File)
     -- "*n = 64 passes, *65 is 3."
     ∷ reads (ofSize 64) (accepted (record { streams = 64; property = 0 }))
     ∷ reads (ofSize 65) (refused 3 File)
-    -- "*No base lines: 21."
-    ∷ checks twoBands withoutLines (refused 21 Base)
+    -- "*No base lines: 21.", though the step's lines are those of an accepted certificate
+    ∷ checks twoBands bandsWhole (accepted (record { depth = 1; base = 12; step = 12 }))
+    ∷ checks twoBands stepAlone (refused 21 Base)
     ∷ []
 
 -- the file is accepted and the inputs are typed; the call is answered and leaves the values; and every solution on inputs that start

@@ -13,6 +13,6 @@ pub fn is_proved(node: &[u8], cert: &[u8]) -> bool
 {
     match certificate::verdict(node, cert) {
         CertificateVerdict::Accepted { depth, base, step } => true,
-        CertificateVerdict::Refused(rule, place) => false,
+        CertificateVerdict::Refused(number, place) => false,
     }
 }

@@ -15,9 +15,6 @@ put-accepted-requires c κs = search needs
 enum-known-verdict-2 : tie.Need-enum-known-verdict-2
 enum-known-verdict-2 c = search needs
 
-number-requires : tie.Need-number-requires
-number-requires c κs = search needs
-
 put-refused-requires : tie.Need-put-refused-requires
 put-refused-requires c κs = search needs
 
@@ -30,8 +27,8 @@ returns c =
 returns-2 : tie.Need-returns-2
 unfolding lineOf
 returns-2 c =
-    let w = rw (c .before .number .ensures) at (c .put-refused .ensures .0) in
-    rw (c .before .before .before .before .verdict2 .given .1) (from-start w (omega arith), leading w (omega arith))
+    let w = c .put-refused .ensures .0 in
+    rw (c .before .before .before .verdict2 .given .1) (from-start w (omega arith), leading w (omega arith))
 
 pub write-line-spec : {M : Type 1} → statement M
 write-line-spec =
@@ -40,7 +37,6 @@ write-line-spec =
     enum-known-verdict
     put-accepted-requires
     enum-known-verdict-2
-    number-requires
     put-refused-requires
     returns
     returns-2)

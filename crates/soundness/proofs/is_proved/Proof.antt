@@ -19,8 +19,8 @@ verdict-requires c κs = search needs
 enum-known-depth : tie.Need-enum-known-depth
 enum-known-depth c = search needs
 
-enum-known-rule : tie.Need-enum-known-rule
-enum-known-rule c = search needs
+enum-known-number : tie.Need-enum-known-number
+enum-known-number c = search needs
 
 returns : tie.Need-returns
 returns c =
@@ -29,8 +29,8 @@ returns c =
 
 returns-2 : tie.Need-returns-2
 returns-2 c =
-    let e = verdict-is (c .before .before .before) ∙ ap certificateAnswer (c .before .rule .given .1) in
+    let e = verdict-is (c .before .before .before) ∙ ap certificateAnswer (c .before .number .given .1) in
     (rw e, λ r. absurd (false≢true r))
 
 pub is-proved-spec : {M : Type 1} → statement M
-is-proved-spec = tie.close (tie.spec verdict-requires enum-known-depth enum-known-rule returns returns-2)
+is-proved-spec = tie.close (tie.spec verdict-requires enum-known-depth enum-known-number returns returns-2)

@@ -4,9 +4,6 @@ use borrow.Author.Needs.{needs}
 use Rattle.capi.proofs.told.refused.Statement.{statement}
 use Rattle.capi.proofs.told.refused.Tie as tie
 
-number-requires : tie.Need-number-requires
-number-requires c κs = search needs
-
 place-number-requires : tie.Need-place-number-requires
 place-number-requires c κs = search needs
 
@@ -16,7 +13,7 @@ place-index-requires c κs = search needs
 returns : tie.Need-returns
 returns c =
     λ i. record {
-      number = c .before .before .number .ensures i;
+      number = c .before .before .args .number;
       place = c .before .place-number .ensures i;
       index = c .place-index .ensures i;
       first = 0;
@@ -26,4 +23,4 @@ returns c =
 
 pub refused-spec : {M : Type 1} → statement M
 refused-spec =
-    tie.close (tie.spec number-requires place-number-requires place-index-requires returns)
+    tie.close (tie.spec place-number-requires place-index-requires returns)

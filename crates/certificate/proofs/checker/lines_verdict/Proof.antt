@@ -101,8 +101,8 @@ returns-3 c =
     rw
     (none-found (c .before .before .before .before .before .before .before), base-is (c .before .before .before) ∙ not-false _ (c .before .before .if1 .left), step-is (c .before) ∙ not-true _ (c .if2 .taken))
 
-cast-t20 : tie.Need-cast-t20
-cast-t20 c = search needs
+cast-depth : tie.Need-cast-depth
+cast-depth c = search needs
 
 returns-4 : tie.Need-returns-4
 unfolding linesVerdict
@@ -130,5 +130,5 @@ lines-verdict-spec =
     returns-2
     has-empty-requires-2
     returns-3
-    cast-t20
+    cast-depth
     returns-4)

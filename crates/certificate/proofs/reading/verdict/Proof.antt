@@ -3,7 +3,7 @@
 use mathlib.Core.Path.{_≡_, sym, _∙_, ap}
 use native.Mathlib.Omega.{arith}
 use denote.Ref.{now}
-use Rattle.answers.specs.Answer.{accepted, refused, numberOf, nodeAnswer}
+use Rattle.answers.specs.Answer.{accepted, refused, nodeAnswer}
 use Rattle.node.specs.Verdict.{verdictOf as nodeVerdict}
 use Rattle.node.proofs.FileRules.{sizes}
 use Rattle.rules.specs.Verdict.{verdictOf}
@@ -15,8 +15,8 @@ use Rattle.certificate.proofs.reading.verdict.Tie as tie
 node-accepted : (c : tie.After-known-told) → nodeVerdict (now (c .before .before .before .before .before .before .args .node)) ≡ accepted (record { streams = c .before .streams .given .0 .0; property = c .before .streams .given .0 .1 .0 })
 node-accepted c = sym (c .before .before .before .verdict .ensures) ∙ ap nodeAnswer (c .before .streams .given .1)
 
-node-refused : (c : tie.After-known-told2) → nodeVerdict (now (c .before .before .before .before .before .before .args .node)) ≡ refused (numberOf (c .before .rule .given .0 .0)) (c .before .rule .given .0 .1 .0)
-node-refused c = sym (c .before .before .before .verdict .ensures) ∙ ap nodeAnswer (c .before .rule .given .1)
+node-refused : (c : tie.After-known-told2) → nodeVerdict (now (c .before .before .before .before .before .before .args .node)) ≡ refused (c .before .number .given .0 .0) (c .before .number .given .0 .1 .0)
+node-refused c = sym (c .before .before .before .verdict .ensures) ∙ ap nodeAnswer (c .before .number .given .1)
 
 verdict-requires : tie.Need-verdict-requires
 verdict-requires c κs = search needs
@@ -33,8 +33,8 @@ cast-certificate-verdict c =
 certificate-verdict-requires : tie.Need-certificate-verdict-requires
 certificate-verdict-requires c κs = node-passed _ _ _ (node-accepted c)
 
-enum-known-rule : tie.Need-enum-known-rule
-enum-known-rule c = search needs
+enum-known-number : tie.Need-enum-known-number
+enum-known-number c = search needs
 
 returns : tie.Need-returns
 unfolding verdictOf
@@ -52,6 +52,6 @@ verdict-spec =
     enum-known-streams
     cast-certificate-verdict
     certificate-verdict-requires
-    enum-known-rule
+    enum-known-number
     returns
     returns-2)

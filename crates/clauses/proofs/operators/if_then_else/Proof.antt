@@ -1,96 +1,47 @@
--- `clauses::if_then_else` meets its contract: in each arm the four clauses of the type.
+-- `clauses::if_then_else` meets its contract: of each branch the clauses of the type, the condition in front.
 -- Assumes nothing.
-use mathlib.Core.Path.{_∙_, ap}
+use mathlib.Core.Path.{_∙_}
+use Prim.Native.Nat.{_-_}
+use native.Mathlib.Omega.{arith}
 use borrow.Author.Needs.{needs}
-use Rattle.rules.specs.Clauses.{clause2}
-use Rattle.clauses.proofs.Numbering.{same-number, lists4}
+use Rattle.rules.specs.declared.pattern.Pattern.the-variants.{Yes, No}
+use Rattle.rules.specs.Clauses.{sameAs}
+use Rattle.clauses.specs.Operators.{Short}
+use Rattle.clauses.proofs.Numbering.{guarded-first, guarded-then, two-clauses, number-has, same-short}
 use Rattle.clauses.proofs.operators.if_then_else.Statement.{statement}
 use Rattle.clauses.proofs.operators.if_then_else.Tie as tie
 
-enum-told : tie.Need-enum-told
-enum-told c = search needs
+same-as-requires : tie.Need-same-as-requires
+same-as-requires c κs = search needs
 
-three-requires : tie.Need-three-requires
-three-requires c κs = search needs
+guarded-requires : tie.Need-guarded-requires
+guarded-requires c κs = let a = c .before .before .args in rw (c .same-as .ensures) (number-has Short (sameAs (a .kind) (a .s) (a .a)) (a .r) (same-short (a .kind) (a .s) (a .a)))
 
-three-requires-2 : tie.Need-three-requires-2
-three-requires-2 c κs = search needs
+same-as-requires-2 : tie.Need-same-as-requires-2
+same-as-requires-2 c κs = search needs
 
-three-requires-3 : tie.Need-three-requires-3
-three-requires-3 c κs = search needs
-
-three-requires-4 : tie.Need-three-requires-4
-three-requires-4 c κs = search needs
-
-of-four-requires : tie.Need-of-four-requires
-of-four-requires c κs = search needs
-
-enum-told-2 : tie.Need-enum-told-2
-enum-told-2 c = search needs
-
-most-requires : tie.Need-most-requires
-most-requires c κs = search needs
-
-two-requires : tie.Need-two-requires
-two-requires c κs = search needs
-
-most-requires-2 : tie.Need-most-requires-2
-most-requires-2 c κs = search needs
-
-two-requires-2 : tie.Need-two-requires-2
-two-requires-2 c κs = search needs
-
-most-requires-3 : tie.Need-most-requires-3
-most-requires-3 c κs = search needs
-
-two-requires-3 : tie.Need-two-requires-3
-two-requires-3 c κs = search needs
-
-most-requires-4 : tie.Need-most-requires-4
-most-requires-4 c κs = search needs
-
-two-requires-4 : tie.Need-two-requires-4
-two-requires-4 c κs = search needs
-
-of-four-requires-2 : tie.Need-of-four-requires-2
-of-four-requires-2 c κs = search needs
+guarded-requires-2 : tie.Need-guarded-requires-2
+guarded-requires-2 c κs = let a = c .before .before .args in rw (c .same-as2 .ensures) (number-has Short (sameAs (a .kind) (a .s) (a .b)) (a .r - 2) (same-short (a .kind) (a .s) (a .b)))
 
 returns : tie.Need-returns
 returns c =
-    rw (c .before .before .before .before .before .enum-told .given .1)
-    (c .of-four .ensures
-    ∙ same-number (c .before .before .before .before .before .before .before .args .r) (lists4 (c .before .before .before .before .three .ensures) (c .before .before .before .three2 .ensures) (c .before .before .three3 .ensures) (c .before .three4 .ensures)))
+    let a = c .before .before .before .args in
+    c .guarded .ensures
+    ∙ rw (c .before .same-as .ensures) (guarded-first (No (a .c)) (Yes (a .c)) (sameAs (a .kind) (a .s) (a .b)) (sameAs (a .kind) (a .s) (a .a)) (a .r) (omega (arith, two-clauses (a .kind) (a .s) (a .a))))
 
 returns-2 : tie.Need-returns-2
 returns-2 c =
-    rw (c .before .before .before .before .before .before .before .before .before .enum-told2 .given .1)
-    (c .of-four2 .ensures
-    ∙ same-number (c .before .before .before .before .before .before .before .before .before .before .before .args .r)
-    (lists4
-    (c .before .before .before .before .before .before .before .two .ensures ∙ ap (clause2 _) (c .before .before .before .before .before .before .before .before .most .ensures))
-    (c .before .before .before .before .before .two2 .ensures ∙ ap (clause2 _) (c .before .before .before .before .before .before .most2 .ensures))
-    (c .before .before .before .two3 .ensures ∙ ap (clause2 _) (c .before .before .before .before .most3 .ensures))
-    (c .before .two4 .ensures ∙ ap (clause2 _) (c .before .before .most4 .ensures))))
+    let a = c .before .before .before .args in
+    c .guarded2 .ensures
+    ∙ rw (c .before .same-as2 .ensures) (guarded-then (No (a .c)) (Yes (a .c)) (sameAs (a .kind) (a .s) (a .b)) (sameAs (a .kind) (a .s) (a .a)) (a .r) (a .r - 2) (omega (arith, two-clauses (a .kind) (a .s) (a .a))))
 
 pub if-then-else-spec : {M : Type 1} → statement M
 if-then-else-spec =
     tie.close
     (tie.spec
-    enum-told
-    three-requires
-    three-requires-2
-    three-requires-3
-    three-requires-4
-    of-four-requires
-    enum-told-2
-    most-requires
-    two-requires
-    most-requires-2
-    two-requires-2
-    most-requires-3
-    two-requires-3
-    most-requires-4
-    two-requires-4
-    of-four-requires-2
+    same-as-requires
+    guarded-requires
+    same-as-requires-2
+    guarded-requires-2
     returns
     returns-2)

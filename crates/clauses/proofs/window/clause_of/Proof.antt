@@ -10,9 +10,9 @@ use borrow.Author.Needs.{needs}
 use Rattle.node.specs.declared.equation.Kind.the-variants.{Bool as BoolKind, Int as IntKind}
 use Rattle.node.specs.declared.equation.Equation.the-variants.{Constant, Not, And, Or, Same, Multiple, AtMost, Equal, If}
 use Rattle.constraints.specs.Linear.{variable}
-use Rattle.rules.specs.Clauses.{equalTo}
+use Rattle.rules.specs.Clauses.{equalTo, firstThen}
 use Rattle.clauses.specs.Operators.{over}
-use Rattle.clauses.proofs.Cases.{constant-anywhere, arrow-case, followed-case}
+use Rattle.clauses.proofs.Cases.{constant-anywhere}
 use Rattle.clauses.proofs.Numbering.{same-number, same2, same3, same4, same-constant}
 use Rattle.clauses.proofs.window.clause_of.Statement.{statement}
 use Rattle.clauses.proofs.window.clause_of.Tie as tie
@@ -261,38 +261,18 @@ returns-12 c =
 returns-13 : tie.Need-returns-13
 returns-13 c =
     let s = c .before .before .before .before .before .before .before .args in
-    let told = c .before .before .before .before .e12 .given in
-    rw (told .1)
+    rw (c .before .before .before .before .e12 .given .1)
     (c .later .ensures
     ∙ same-number (s .r)
-    (arrow-case
-    (s .kind)
-    (variable (s .offset))
-    (variable (s .offset - 1))
-    (told .0 .0)
-    (told .0 .1 .0)
-    (c .before .before .before .before .before .before .var .ensures)
-    (c .before .before .var21 .ensures)
-    (c .before .var22 .ensures)
-    (s .place)))
+    (same3 (firstThen (s .kind) (s .place)) (c .before .before .before .before .before .before .var .ensures) (c .before .before .var21 .ensures) (c .before .var22 .ensures)))
 
 returns-14 : tie.Need-returns-14
 returns-14 c =
     let s = c .before .before .before .before .before .before .before .args in
-    let told = c .before .before .before .before .e13 .given in
-    rw (told .1)
+    rw (c .before .before .before .before .e13 .given .1)
     (c .later2 .ensures
     ∙ same-number (s .r)
-    (followed-case
-    (s .kind)
-    (variable (s .offset))
-    (variable (s .offset - 1))
-    (told .0 .0)
-    (told .0 .1 .0)
-    (c .before .before .before .before .before .before .var .ensures)
-    (c .before .before .var23 .ensures)
-    (c .before .back .ensures)
-    (s .place)))
+    (same3 (firstThen (s .kind) (s .place)) (c .before .before .before .before .before .before .var .ensures) (c .before .before .var23 .ensures) (c .before .back .ensures)))
 
 pub clause-of-spec : {M : Type 1} → statement M
 clause-of-spec =

@@ -1,14 +1,26 @@
--- `node::is_placed` meets its contract: the tests in a row.
+-- `node::is_placed` meets its contract: in each arm the test is that of the case.
 -- Assumes nothing.
 use borrow.Author.Needs.{needs}
 use Rattle.node.proofs.rules.is_placed.Statement.{statement}
 use Rattle.node.proofs.rules.is_placed.Tie as tie
 
-reads-requires : tie.Need-reads-requires
-reads-requires c κs = search needs
+enum-told : tie.Need-enum-told
+enum-told c = search needs
+
+enum-told-2 : tie.Need-enum-told-2
+enum-told-2 c = search needs
+
+enum-told-3 : tie.Need-enum-told-3
+enum-told-3 c = search needs
 
 returns : tie.Need-returns
-returns c = cc
+returns c = search needs
+
+returns-2 : tie.Need-returns-2
+returns-2 c = rw (c .enum-told2 .given .1)
+
+returns-3 : tie.Need-returns-3
+returns-3 c = rw (c .enum-told3 .given .1)
 
 pub is-placed-spec : {M : Type 1} → statement M
-is-placed-spec = tie.close (tie.spec reads-requires returns)
+is-placed-spec = tie.close (tie.spec enum-told enum-told-2 enum-told-3 returns returns-2 returns-3)

@@ -17,8 +17,8 @@ cast-type-among c = search needs
 type-among-requires : tie.Need-type-among-requires
 type-among-requires c κs = search needs
 
-has-type-requires-2 : tie.Need-has-type-requires-2
-has-type-requires-2 c κs = search needs
+is-typed-requires : tie.Need-is-typed-requires
+is-typed-requires c κs = search needs
 
 cast-type-among-2 : tie.Need-cast-type-among-2
 cast-type-among-2 c = search needs
@@ -26,8 +26,8 @@ cast-type-among-2 c = search needs
 type-among-requires-2 : tie.Need-type-among-requires-2
 type-among-requires-2 c κs = search needs
 
-has-type-requires-3 : tie.Need-has-type-requires-3
-has-type-requires-3 c κs = search needs
+is-typed-requires-2 : tie.Need-is-typed-requires-2
+is-typed-requires-2 c κs = search needs
 
 cast-type-among-3 : tie.Need-cast-type-among-3
 cast-type-among-3 c = search needs
@@ -35,8 +35,8 @@ cast-type-among-3 c = search needs
 type-among-requires-3 : tie.Need-type-among-requires-3
 type-among-requires-3 c κs = search needs
 
-has-type-requires-4 : tie.Need-has-type-requires-4
-has-type-requires-4 c κs = search needs
+is-typed-requires-3 : tie.Need-is-typed-requires-3
+is-typed-requires-3 c κs = search needs
 
 returns : tie.Need-returns
 unfolding typesOk
@@ -45,11 +45,11 @@ returns c =
     let a = b .before .before .before in
     let own = a .before .before .before in
     rw (
-      c .has-type4 .ensures,
+      c .is-typed3 .ensures,
       c .before .type-among3 .ensures,
-      b .has-type3 .ensures,
+      b .is-typed2 .ensures,
       b .before .type-among2 .ensures,
-      a .has-type2 .ensures,
+      a .is-typed .ensures,
       a .before .type-among .ensures,
       own .has-type .ensures,
       own .before .row-of .ensures,
@@ -63,11 +63,11 @@ types-ok-spec =
     has-type-requires
     cast-type-among
     type-among-requires
-    has-type-requires-2
+    is-typed-requires
     cast-type-among-2
     type-among-requires-2
-    has-type-requires-3
+    is-typed-requires-2
     cast-type-among-3
     type-among-requires-3
-    has-type-requires-4
+    is-typed-requires-3
     returns)

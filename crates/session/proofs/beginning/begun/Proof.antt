@@ -2,7 +2,7 @@
 -- Assumes nothing.
 use mathlib.Core.Path.{_≡_, sym, _∙_, ap}
 use denote.Ref.{now}
-use Rattle.answers.specs.Answer.{accepted, refused, numberOf, nodeAnswer}
+use Rattle.answers.specs.Answer.{accepted, refused, nodeAnswer}
 use Rattle.node.specs.Verdict.{verdictOf}
 use Rattle.session.proofs.Beginnings.{begins, keeps}
 use borrow.Author.Needs.{needs}
@@ -21,11 +21,11 @@ accepted-is c = sym (c .before .before .before .verdict .ensures) ∙ ap nodeAns
 session-on-requires : tie.Need-session-on-requires
 session-on-requires c κs = accepted-is c
 
-enum-known-rule : tie.Need-enum-known-rule
-enum-known-rule c = search needs
+enum-known-number : tie.Need-enum-known-number
+enum-known-number c = search needs
 
-refused-is : (c : tie.After-known-told2) → verdictOf (now (c .before .before .before .before .before .args .file)) ≡ refused (numberOf (c .before .rule .given .0 .0)) (c .before .rule .given .0 .1 .0)
-refused-is c = sym (c .before .before .before .verdict .ensures) ∙ ap nodeAnswer (c .before .rule .given .1)
+refused-is : (c : tie.After-known-told2) → verdictOf (now (c .before .before .before .before .before .args .file)) ≡ refused (c .before .number .given .0 .0) (c .before .number .given .0 .1 .0)
+refused-is c = sym (c .before .before .before .verdict .ensures) ∙ ap nodeAnswer (c .before .number .given .1)
 
 returns : tie.Need-returns
 returns c = (sym (accepted-is (c .before)), c .session-on .ensures ∙ begins _ _ (accepted-is (c .before)))
@@ -40,6 +40,6 @@ begun-spec =
     verdict-requires
     enum-known-streams
     session-on-requires
-    enum-known-rule
+    enum-known-number
     returns
     returns-2)
