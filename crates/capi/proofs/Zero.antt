@@ -13,7 +13,7 @@ use Rattle.answers.specs.declared.Found.{Found}
 use Rattle.answers.specs.declared.Found.the-variants.{At, Nothing}
 use Rattle.answers.specs.declared.Place.{Place}
 use Rattle.answers.specs.declared.Place.the-variants.{File, Record as AtRecord, Constraint as AtConstraint, Line as AtLine, Base, Step}
-use Rattle.answers.specs.Answer.{Answer, accepted, refused, isAccepted, CertificateValues}
+use Rattle.answers.specs.Answer.{Answer, accepted, refused, isAccepted, NodeValues, CertificateValues}
 use Rattle.answers.specs.Checks.{check, checkAll, lowest}
 use Rattle.answers.proofs.Lowest.{first}
 use Rattle.node.specs.declared.reading.RecordRule.the-variants.{Shape, Operands, Types}
