@@ -10,9 +10,9 @@ use session::work;
 ghost use mathlib.Core.Path.{_≡_};
 ghost use lib.ListN.{length};
 ghost use Rattle.session.specs.Instants.{sessionOf, sliceOf};
-ghost use Rattle.session.specs.Lists.{after};
+ghost use Rattle.session.specs.Lists.{after, afterAll};
 ghost use Rattle.session.specs.Records.{begunOf};
-ghost use Rattle.run_passes.specs.Pass.{callOf};
+ghost use Rattle.run_passes.specs.Pass.{callOf, callsOf};
 ghost use Rattle.run_passes.specs.Zeroed.{zeroed};
 
 mod pass;
@@ -96,7 +96,10 @@ fn called(s: Session, call: &[u8]) -> Session
     stepped(s, &inputs[..count], &mut slice[..room])
 }
 
-fn run(begun: Session, calls: &[u8]) {
+// The session after all calls of a pass, each made in turn on the session that the one before left.
+fn run(begun: Session, calls: &[u8]) -> Session
+    ensures { λ r. ⌜ r ≡ afterAll begun (callsOf (now (calls .entry))) ⌝ }
+{
     let mut s = begun;
     let mut left = calls;
     let mut size = pass::first_size(left);
@@ -105,6 +108,7 @@ fn run(begun: Session, calls: &[u8]) {
         left = &left[size..];
         size = pass::first_size(left);
     }
+    s
 }
 
 fn run_files(node_path: &[u8], pass_path: &[u8]) {
