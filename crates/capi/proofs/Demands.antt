@@ -1,35 +1,28 @@
--- Demand 3 of the exported calls, from demand 3 of the calls below them.
+-- Demands 2 and 3 of the exported calls, from those of the calls below them.
 -- Assumes nothing.
-use mathlib.Core.Path.{_≡_, refl, sym, ap, subst}
-use mathlib.Core.List.{List}
-use Prim.Native.Nat.{ℕ}
-use Rattle.answers.specs.Answer.{Answer, accepted, refused, CertificateValues}
+use mathlib.Core.Path.{_≡_, refl, ap}
+use mathlib.Core.Bool.{true, false≢true}
+use Rattle.answers.specs.Answer.{Answer, accepted, refused, isAccepted}
+use Rattle.node.specs.Verdict.{verdictOf as nodeVerdict}
 use Rattle.rules.specs.Verdict.{verdictOf}
-use Rattle.session.specs.Lists.{Call, Answered}
-use Rattle.session.specs.Theorems.{Shows}
-use Rattle.soundness.specs.Demands.{ShowsProperty}
+use Rattle.session.proofs.Sessions.{sessions-exact}
 use Rattle.soundness.proofs.Demands.{demand-3}
-use Rattle.capi.specs.declared.records.SessionRecord.{SessionRecord}
-use Rattle.capi.specs.Answers.{toldNode, toldCertificate}
-use Rattle.capi.specs.Records.{asSession}
-use Rattle.capi.specs.Theorems.{DemandedOn, ExportedDemand3}
-use Rattle.capi.proofs.ExactSessions.{same-list}
-use Rattle.capi.proofs.Zero.{Numbered, not-zero, verdict-numbered}
+use Rattle.capi.specs.Answers.{toldNode}
+use Rattle.capi.specs.Theorems.{ExportedSessionsExact, ExportedDemand3}
+use Rattle.capi.proofs.Zero.{zero}
 
-by-verdict : (node cert : List ℕ) (a : Answer CertificateValues) → verdictOf node cert ≡ a → Numbered a → toldCertificate a .number ≡ 0 → (before : SessionRecord) (calls : List Call) → DemandedOn node before calls
-unfolding toldNode toldCertificate
-by-verdict node cert (accepted v) e n zero before calls =
-    let demanded = demand-3 node cert v e (asSession before) calls in
-    let list = sym (same-list node before calls) in
-    record {
-      one-solution = demanded .one-solution;
-      property = demanded .property;
-      begins = ap (λ a. toldNode a .number) (demanded .begins);
-      shows = subst (λ (done : List Answered). Shows node done) list (demanded .shows);
-      shows-property = subst (λ (done : List Answered). ShowsProperty node done) list (demanded .shows-property);
-    }
-by-verdict node cert (refused number place) e n zero before calls = absurd (not-zero _ number place n zero)
+accepted-with : {A : Type 0} (a : Answer A) → isAccepted a ≡ true → (v : A) × (a ≡ accepted v)
+accepted-with (accepted v) e = (v, refl)
+accepted-with (refused number place) e = absurd (false≢true e)
+
+pub exported-sessions-exact : ExportedSessionsExact
+exported-sessions-exact file told =
+    let node = accepted-with (nodeVerdict file) (zero .node file told) in
+    sessions-exact file (node .0) (node .1)
 
 pub exported-demand-3 : ExportedDemand3
-exported-demand-3 node cert zero before calls =
-    by-verdict node cert (verdictOf node cert) refl (verdict-numbered node cert) zero before calls
+unfolding toldNode
+exported-demand-3 node cert told before calls =
+    let values = accepted-with (verdictOf node cert) (zero .certificate node cert told) in
+    let demanded = demand-3 node cert (values .0) (values .1) before calls in
+    (ap (λ a. toldNode a .number) (demanded .begins), demanded)

@@ -22,7 +22,7 @@ use Rattle.node.specs.Rules as node-rules
 use Rattle.node.specs.Rules.{lengthOk}
 use Rattle.node.specs.Verdict.{passesOf, recordsVerdict, verdictOf as nodeVerdict}
 use Rattle.session.specs.declared.Session.{Session}
-use Rattle.session.specs.Instants.{inputFits, valueFits, answerOf}
+use Rattle.session.specs.Instants.{inputFits, workedOut, valueInside, answerOf}
 use Rattle.session.specs.Records.{held, holdsNode}
 use Rattle.constraints.specs.Layout.{trailerOf, lineOf}
 use Rattle.constraints.specs.Rules.{fixedOk, countsOk, distanceOk}
@@ -30,11 +30,10 @@ use Rattle.rules.specs.Lines.{hasEmpty}
 use Rattle.rules.specs.Verdict.{linesOf, baseOf, stepOf, constraintPasses, shapePasses, linePasses, checkLines, lineNumber, linesVerdict, constraintsVerdict, certificateVerdict, afterNode, verdictOf}
 use Rattle.capi.specs.declared.told.Told.{Told}
 use Rattle.capi.specs.Answers.{toldAccepted, toldOf, toldNode, toldCertificate, toldInstant}
-use Rattle.capi.specs.Records.{asSession, answerOn}
 use Rattle.capi.specs.Theorems.{ZeroAccepts}
 
 -- a refusal's number is above 0
-unfoldable pub Numbered : {A : Type 0} → Answer A → Type 0
+unfoldable Numbered : {A : Type 0} → Answer A → Type 0
 Numbered (accepted a) = Unit {0}
 Numbered (refused number place) = 0 < number
 
@@ -46,7 +45,7 @@ none : {A : Type 0} (a : A) → Numbered (accepted a)
 unfolding Numbered
 none a = tt
 
-pub not-zero : (A : Type 0) (number : ℕ) (place : Place) → Numbered {A = A} (refused number place) → number ≡ 0 → ⊥
+not-zero : (A : Type 0) (number : ℕ) (place : Place) → Numbered {A = A} (refused number place) → number ≡ 0 → ⊥
 unfolding Numbered
 not-zero A number place l e = omega arith
 
@@ -59,7 +58,7 @@ module _ {A : Type 0} where
   tested-all (At i) number place rest l n = above A number (place i) l
   tested-all Nothing number place rest l n = n
 
-pub node-numbered : (file : List ℕ) → Numbered (nodeVerdict file)
+node-numbered : (file : List ℕ) → Numbered (nodeVerdict file)
 unfolding nodeVerdict recordsVerdict
 node-numbered file =
     let n = streamsOf file in
@@ -101,7 +100,7 @@ unfolding Numbered
 after (accepted v) b n m = m
 after (refused number place) b n m = n
 
-pub verdict-numbered : (node cert : List ℕ) → Numbered (verdictOf node cert)
+verdict-numbered : (node cert : List ℕ) → Numbered (verdictOf node cert)
 unfolding verdictOf
 verdict-numbered node cert =
     after (nodeVerdict node) (certificateVerdict node cert) (node-numbered node) (certificate-numbered node cert)
@@ -114,7 +113,7 @@ instant-numbered s inputs room =
     (tested (eqb (length inputs) (inputCount (held s))) 31 File _ (omega arith)
     (tested (eqb room n) 32 File _ (omega arith)
     (tested-all (lowest (inputFits (held s) inputs) n) 33 AtRecord _ (omega arith)
-    (tested-all (lowest (valueFits s inputs) n) 34 AtRecord _ (omega arith)
+    (tested-all (lowest (valueInside (workedOut s inputs)) n) 34 AtRecord _ (omega arith)
     (none _)))))
 
 zero-accepts : {A : Type 0} (values : A → Told) (a : Answer A) → Numbered a → toldOf values a .number ≡ 0 → isAccepted a ≡ true
@@ -122,10 +121,10 @@ zero-accepts values (accepted v) n e = refl
 zero-accepts values (refused number place) n e = absurd (not-zero _ number place n e)
 
 pub zero : ZeroAccepts
-unfolding toldNode toldCertificate toldInstant answerOn
+unfolding toldNode toldCertificate toldInstant
 zero =
     record {
       node = λ file. zero-accepts (λ (v : NodeValues). toldAccepted (v .streams) (v .property) 0) (nodeVerdict file) (node-numbered file);
       certificate = λ node cert. zero-accepts (λ (v : CertificateValues). toldAccepted (v .depth) (v .base) (v .step)) (verdictOf node cert) (verdict-numbered node cert);
-      instant = λ r inputs room. zero-accepts (λ (_ : Unit {0}). toldAccepted 0 0 0) (answerOf (asSession r) inputs room) (instant-numbered (asSession r) inputs room);
+      instant = λ s inputs room. zero-accepts (λ (_ : Unit {0}). toldAccepted 0 0 0) (answerOf s inputs room) (instant-numbered s inputs room);
     }

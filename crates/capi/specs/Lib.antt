@@ -1,4 +1,2 @@
 pub mod Answers
-pub mod Lists
-pub mod Records
 pub mod Theorems

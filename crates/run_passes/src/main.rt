@@ -6,7 +6,7 @@ use answers::NodeVerdict;
 use files::read_file;
 use session::Session;
 use session::begun;
-use session::work;
+use session::step;
 ghost use mathlib.Core.Path.{_≡_};
 ghost use lib.ListN.{length};
 ghost use Rattle.session.specs.Instants.{sessionOf, sliceOf};
@@ -26,10 +26,11 @@ fn begun_on(file: &[u8]) -> Session
     ensures { λ r. ⌜ r ≡ begunOf (now (file .entry)) zeroed ⌝ }
 {
     let record = Session {
-        file: [0u8; 1040],
         length: 0,
-        started: false,
         last: [0i64; 64],
+        file: [0u8; 1040],
+        started: 0,
+        spare: [0u8; 7],
     };
     let t = begun(record, file);
     let answer = t.answer;
@@ -79,7 +80,7 @@ fn stepped(s: Session, inputs: &[i64], slice: &mut [i64]) -> Session
     ensures { λ r. ⌜ (r ≡ sessionOf s (now (inputs .entry)) (length (now (slice .entry))))
         × (now (slice .exit) ≡ sliceOf s (now (inputs .entry)) (now (slice .entry))) ⌝ }
 {
-    let t = work(s, inputs, slice);
+    let t = step(s, inputs, slice);
     let answer = t.answer;
     say_answer(answer, slice);
     t.session

@@ -1,7 +1,7 @@
 -- The answer to an instant's call: which one each test in its turn gives, and what an answered call has passed.
 -- Assumes nothing.
 use mathlib.Core.Path.{_≡_, refl, sym, _∙_, ap}
-use mathlib.Core.Bool.{Bool, true, false, not, cond, _&&_, _||_, false≢true}
+use mathlib.Core.Bool.{Bool, true, false, cond, false≢true}
 use mathlib.Core.List.{List}
 use Prim.Native.Nat.{ℕ, _≤_}
 use native.Mathlib.Omega.{arith}
@@ -14,8 +14,8 @@ use Rattle.answers.specs.declared.Place.the-variants.{File, Record as AtRecord}
 use Rattle.answers.specs.declared.InstantVerdict.{InstantVerdict}
 use Rattle.answers.specs.declared.InstantVerdict.the-variants.{Refused}
 use Rattle.answers.specs.declared.Found.the-variants.{At, Nothing}
-use Rattle.answers.specs.Answer.{Answer, accepted, refused, instantAnswer, NodeValues, ifAccepted, isAccepted}
-use Rattle.answers.specs.Checks.{every, lowest}
+use Rattle.answers.specs.Answer.{Answer, accepted, refused, instantAnswer, NodeValues, isAccepted}
+use Rattle.answers.specs.Checks.{lowest}
 use Rattle.answers.proofs.InARow.{by-check}
 use Rattle.answers.proofs.Tests.{both-true}
 use Rattle.node.specs.Inputs.{inputCount}
@@ -27,10 +27,11 @@ use Rattle.streams.specs.Evaluation.{upTo}
 use Rattle.streams.specs.Nodes.{nodeOf}
 use Rattle.streams.proofs.Evaluations.{instant-length}
 use Rattle.session.specs.declared.Session.{Session}
+use Rattle.session.specs.declared.holding.Held.{Held}
 use Rattle.session.specs.declared.holding.Held.the-variants.{Streams, NoNode}
-use Rattle.session.specs.Records.{filled, held, holdsNode, lastFits}
-use Rattle.session.specs.Instants.{inputFits, workedOut, valueFits, answerOf, movedOn, sessionOf, sliceOf}
-use Rattle.session.specs.Working.{nodeHeld, instantOf, valueInside, movedTo}
+use Rattle.session.specs.Records.{filled, held, unstarted, isNode, holdsNode}
+use Rattle.session.specs.Instants.{inputFits, instantOf, workedOut, valueInside, answerOf, movedTo, sessionOf, sliceOf}
+use Rattle.session.specs.Working.{nodeHeld}
 use Rattle.session.proofs.Filled.{over, over-whole, start-of-filled}
 
 -- a refusal is no answer
@@ -40,16 +41,19 @@ not-answered e = let n : _≡_ {A = ℕ} 0 1 = cc in absurd (omega arith)
 -- ---- what the node that was found says of the record
 
 module _ (s : Session) where
-  pub holds-none : nodeHeld s ≡ NoNode → holdsNode s ≡ false
-  unfolding nodeHeld
+  abbrev nodeFound : Held
+  nodeFound = nodeHeld (s .file) (s .length) (unstarted s) (s .last)
+
+  pub holds-none : nodeFound ≡ NoNode → holdsNode s ≡ false
+  unfolding nodeHeld holdsNode
   holds-none = go (holdsNode s)
     where
       go : (b : Bool) → cond b (Streams (streamsOf (held s))) NoNode ≡ NoNode → b ≡ false
       go true e = let n : _≡_ {A = ℕ} 0 1 = cc in absurd (omega arith)
       go false e = refl
 
-  pub holds-one : {n : ℕ} → nodeHeld s ≡ Streams n → (holdsNode s ≡ true) × (n ≡ streamsOf (held s))
-  unfolding nodeHeld
+  pub holds-one : {n : ℕ} → nodeFound ≡ Streams n → (holdsNode s ≡ true) × (n ≡ streamsOf (held s))
+  unfolding nodeHeld holdsNode
   holds-one {n} = go (holdsNode s)
     where
       go : (b : Bool) → cond b (Streams (streamsOf (held s))) NoNode ≡ Streams n → (b ≡ true) × (n ≡ streamsOf (held s))
@@ -57,17 +61,15 @@ module _ (s : Session) where
       go false e = let n : _≡_ {A = ℕ} 0 1 = cc in absurd (omega arith)
 
   module _ (e : holdsNode s ≡ true) where
-    accepted-held : (leb (s .length) 1040 ≡ true) × (isAccepted (verdictOf (held s)) ≡ true)
+    short-and-node : (leb (s .length) 1040 ≡ true) × (isNode (held s) (unstarted s) (s .last) ≡ true)
     unfolding holdsNode
-    accepted-held =
-        both-true (leb (s .length) 1040) (isAccepted (verdictOf (held s)))
-        (both-true (leb (s .length) 1040 && isAccepted (verdictOf (held s))) (not (s .started) || every (lastFits s) (streamsOf (held s))) e .0)
+    short-and-node = both-true (leb (s .length) 1040) (isNode (held s) (unstarted s) (s .last)) e
 
     pub held-short : s .length ≤ 1040
-    held-short = leb-true (s .length) 1040 (accepted-held .0)
+    held-short = leb-true (s .length) 1040 (short-and-node .0)
 
     pub held-sizes : Sizes (held s)
-    held-sizes = go (verdictOf (held s)) refl (accepted-held .1)
+    held-sizes = go (verdictOf (held s)) refl (both-true (isAccepted (verdictOf (held s))) _ (short-and-node .1) .0)
       where
         go : (a : Answer NodeValues) → verdictOf (held s) ≡ a → isAccepted a ≡ true → Sizes (held s)
         go (accepted node) e t = accepted-sizes (held s) e
@@ -96,11 +98,11 @@ module _ (s : Session) (inputs : List ℤ) (room : ℕ) where
         answer-33 e = rw (holds, count, sized, e)
 
         module _ (typed : lowest (inputFits (held s) inputs) (streamsOf (held s)) ≡ Nothing) where
-          pub answer-34 : {i : ℕ} → lowest (valueFits s inputs) (streamsOf (held s)) ≡ At i → refused 34 (AtRecord i) ≡ answerOf s inputs room
+          pub answer-34 : {i : ℕ} → lowest (valueInside (workedOut s inputs)) (streamsOf (held s)) ≡ At i → refused 34 (AtRecord i) ≡ answerOf s inputs room
           unfolding answerOf
           answer-34 e = rw (holds, count, sized, typed, e)
 
-          pub answer-none : lowest (valueFits s inputs) (streamsOf (held s)) ≡ Nothing → accepted tt ≡ answerOf s inputs room
+          pub answer-none : lowest (valueInside (workedOut s inputs)) (streamsOf (held s)) ≡ Nothing → accepted tt ≡ answerOf s inputs room
           unfolding answerOf
           answer-none e = rw (holds, count, sized, typed, e)
 
@@ -123,49 +125,36 @@ module _ (s : Session) (inputs : List ℤ) (room : ℕ) where
   pub answered-room : answerOf s inputs room ≡ accepted tt → room ≡ streamsOf (held s)
   answered-room e = eqb-true room (streamsOf (held s)) (passed e .1)
 
-  -- what a call writes has room in the slice, and the array has it
-  pub written-few : (ifAccepted (answerOf s inputs room) room 0 ≤ room) × (ifAccepted (answerOf s inputs room) room 0 ≤ 64)
-  written-few = go (answerOf s inputs room) refl
-    where
-      go : (a : Answer (Unit {0})) → answerOf s inputs room ≡ a → (ifAccepted a room 0 ≤ room) × (ifAccepted a room 0 ≤ 64)
-      go (accepted node) e = (omega arith, omega (arith, answered-room e, held-sizes s (passed e .0) .few))
-      go (refused number place) e = (omega arith, omega arith)
+  pub answered-few : answerOf s inputs room ≡ accepted tt → room ≤ 64
+  answered-few e = omega (arith, answered-room e, held-sizes s (passed e .0) .few)
 
--- ---- the values of the held node's instant
+-- ---- record and slice
 
-module _ (s : Session) (inputs : List ℤ) where
-  pub worked-is : instantOf (held s) inputs (not (s .started)) (s .last) ≡ workedOut s inputs
-  unfolding instantOf workedOut
-  worked-is = refl
+module _ (s : Session) (inputs slice values : List ℤ) where
+  abbrev Answered : Type 0
+  Answered = answerOf s inputs (length slice) ≡ accepted tt
 
-  pub fits-is : (n : ℕ) → lowest (valueInside (instantOf (held s) inputs (not (s .started)) (s .last))) n ≡ lowest (valueFits s inputs) n
-  unfolding instantOf workedOut valueFits
-  fits-is n = refl
+  abbrev Has : Type 0
+  Has = values ≡ filled 64 (pos 0) (workedOut s inputs)
+
+  pub moves : Answered → Has → movedTo s values ≡ sessionOf s inputs (length slice)
+  unfolding sessionOf
+  moves e are = rw e (ap (movedTo s) are)
 
   worked-length : length (workedOut s inputs) ≡ streamsOf (held s)
-  unfolding workedOut
-  worked-length = instant-length (nodeOf (held s)) (upTo (streamsOf (held s))) inputs (not (s .started)) (s .last)
+  unfolding instantOf
+  worked-length = instant-length (nodeOf (held s)) (upTo (streamsOf (held s))) inputs (unstarted s) (s .last)
 
-  -- ---- record and slice, from the values that an answered call has
+  writes-all : Answered → Has → over slice values (length slice) ≡ workedOut s inputs
+  writes-all e are =
+      over-whole slice values
+      ∙ ap (take (length slice)) are
+      ∙ start-of-filled 64 (length slice) (pos 0) (workedOut s inputs) (worked-length ∙ sym (answered-room s inputs (length slice) e))
 
-  abbrev pub Values : (room : ℕ) → (values : List ℤ) → Type 0
-  Values room values = answerOf s inputs room ≡ accepted tt → values ≡ filled 64 (pos 0) (workedOut s inputs)
-
-  pub moves : (room : ℕ) (values : List ℤ) → Values room values → ifAccepted (answerOf s inputs room) (movedTo s values) s ≡ sessionOf s inputs room
-  unfolding sessionOf
-  moves room values are = go (answerOf s inputs room) are
-    where
-      go : (a : Answer (Unit {0})) → (a ≡ accepted tt → values ≡ filled 64 (pos 0) (workedOut s inputs)) → ifAccepted a (movedTo s values) s ≡ ifAccepted a (movedOn s inputs) s
-      go (accepted node) are = ap (movedTo s) (are refl)
-      go (refused number place) are = refl
-
-  pub writes : (slice values : List ℤ) → Values (length slice) values → over slice values (ifAccepted (answerOf s inputs (length slice)) (length slice) 0) ≡ sliceOf s inputs slice
+  pub writes : Answered → Has → over slice values (length slice) ≡ sliceOf s inputs slice
   unfolding sliceOf
-  writes slice values are = go (answerOf s inputs (length slice)) refl are
-    where
-      go : (a : Answer (Unit {0})) → answerOf s inputs (length slice) ≡ a → (a ≡ accepted tt → values ≡ filled 64 (pos 0) (workedOut s inputs)) → over slice values (ifAccepted a (length slice) 0) ≡ ifAccepted a (workedOut s inputs) slice
-      go (accepted node) e are =
-          over-whole slice values
-          ∙ ap (take (length slice)) (are refl)
-          ∙ start-of-filled 64 (length slice) (pos 0) (workedOut s inputs) (worked-length ∙ sym (answered-room s inputs (length slice) e))
-      go (refused number place) e are = refl
+  writes e are = rw e (writes-all e are)
+
+pub refused-keeps : (s : Session) (inputs slice : List ℤ) {number : ℕ} {place : Place} → answerOf s inputs (length slice) ≡ refused number place → (sessionOf s inputs (length slice) ≡ s) × (sliceOf s inputs slice ≡ slice)
+unfolding sessionOf sliceOf
+refused-keeps s inputs slice e = (rw e, rw e)

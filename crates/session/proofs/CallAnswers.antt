@@ -29,7 +29,7 @@ use Rattle.streams.specs.Values.{Values, valuesIn}
 use Rattle.streams.proofs.InputNumbers.{operator-0}
 use Rattle.streams.proofs.Numbers.{fits-test}
 use Rattle.session.specs.declared.Session.{Session}
-use Rattle.session.specs.Instants.{inputFits, workedOut, valueFits, answerOf}
+use Rattle.session.specs.Instants.{inputFits, workedOut, valueInside, answerOf}
 use Rattle.session.specs.Lists.{Call, Answered, answerTo}
 use Rattle.session.specs.Records.{held}
 use Rattle.session.specs.Theorems.{Judged, inputTyped, answerGiven}
@@ -84,9 +84,9 @@ module _ (file : List ℕ) {node : NodeValues} (e : verdictOf file ≡ accepted 
   module _ (done : List Answered) (s : Session) (stands : Standing file done s) where
     -- the answer is the one for the values worked out
     answer-is : answerTo s c ≡ answerGiven file c (valuesIn (workedOut s (c .inputs)))
-    unfolding answerOf inputFits valueFits
+    unfolding answerOf inputFits
     answer-is =
-        let value = lowest (valueFits s (c .inputs)) in
+        let value = lowest (valueInside (workedOut s (c .inputs))) in
         ap (λ (b : Bool). check b 30 File (inOrder (eqb (length (c .inputs)) (inputCount (held s))) (eqb (length (c .slice)) (streamsOf (held s))) (lowest (inputFits (held s) (c .inputs)) (streamsOf (held s))) (value (streamsOf (held s))))) (holds-node file e done s stands)
         ∙ ap₂ (λ (n : Node) (fit : ℕ → Bool). inOrder (eqb (length (c .inputs)) (n .inputs)) (eqb (length (c .slice)) (n .streams)) (lowest fit (n .streams)) (value (n .streams)))
         (held-node file e done s stands)

@@ -1,44 +1,44 @@
 -- Which node a file, and a record, holds.
 -- Assumes nothing.
 use mathlib.Core.Path.{_≡_, ap}
-use mathlib.Core.Bool.{Bool, true, false, not, _||_}
+use mathlib.Core.Bool.{Bool, true, false, _||_}
 use mathlib.Core.List.{List}
 use Prim.Native.Nat.{ℕ, _<_, _≤_}
 use borrow.Author.Tests.{le-leb, lt-leb}
 use lib.IntN.{ℤ}
+use lib.ListN.{take}
 use Rattle.answers.specs.declared.Place.{Place}
 use Rattle.answers.specs.Answer.{accepted, refused, NodeValues}
 use Rattle.answers.specs.Checks.{every}
 use Rattle.node.specs.Layout.{streamsOf}
 use Rattle.node.specs.Verdict.{verdictOf}
 use Rattle.node.proofs.Outcomes.{accepted-values}
-use Rattle.session.specs.declared.Session.{Session}
 use Rattle.session.specs.declared.holding.Held.the-variants.{Streams, NoNode}
-use Rattle.session.specs.Records.{held, holdsNode}
-use Rattle.session.specs.Working.{valueTyped, nodeIn, nodeHeld}
+use Rattle.session.specs.Records.{valueTyped}
+use Rattle.session.specs.Working.{nodeIn, nodeHeld}
 
-module _ (file : List ℕ) (started : Bool) (last : List ℤ) where
+module _ (file : List ℕ) (first : Bool) (last : List ℤ) where
   module _ {node : NodeValues} (e : verdictOf file ≡ accepted node) where
     streams-is : node .streams ≡ streamsOf file
     streams-is = ap (λ (v : NodeValues). v .streams) (accepted-values file e)
 
-    pub typed : (not started || every (valueTyped file last) (node .streams)) ≡ true → Streams (node .streams) ≡ nodeIn file started last
+    pub typed : (first || every (valueTyped file last) (node .streams)) ≡ true → Streams (node .streams) ≡ nodeIn file first last
     unfolding nodeIn
     typed t = rw (e, ← streams-is, t)
 
-    pub untyped : (not started || every (valueTyped file last) (node .streams)) ≡ false → NoNode ≡ nodeIn file started last
+    pub untyped : (first || every (valueTyped file last) (node .streams)) ≡ false → NoNode ≡ nodeIn file first last
     unfolding nodeIn
     untyped t = rw (e, ← streams-is, t)
 
-  pub not-accepted : {number : ℕ} {place : Place} → verdictOf file ≡ refused number place → NoNode ≡ nodeIn file started last
+  pub not-accepted : {number : ℕ} {place : Place} → verdictOf file ≡ refused number place → NoNode ≡ nodeIn file first last
   unfolding nodeIn
   not-accepted e = rw e
 
-module _ (s : Session) where
-  pub too-long : 1040 < s .length → NoNode ≡ nodeHeld s
-  unfolding nodeHeld holdsNode
-  too-long l = rw (lt-leb (s .length) 1040 l)
+module _ (file : List ℕ) (size : ℕ) (first : Bool) (last : List ℤ) where
+  pub too-long : 1040 < size → NoNode ≡ nodeHeld file size first last
+  unfolding nodeHeld
+  too-long l = rw (lt-leb size 1040 l)
 
-  pub short-enough : s .length ≤ 1040 → nodeIn (held s) (s .started) (s .last) ≡ nodeHeld s
-  unfolding nodeHeld holdsNode nodeIn
-  short-enough l = rw (le-leb (s .length) 1040 l)
+  pub short-enough : size ≤ 1040 → nodeIn (take size file) first last ≡ nodeHeld file size first last
+  unfolding nodeHeld nodeIn
+  short-enough l = rw (le-leb size 1040 l)

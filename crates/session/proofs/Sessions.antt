@@ -10,11 +10,12 @@ use Rattle.session.specs.declared.Session.{Session}
 use Rattle.session.specs.Lists.{Call, Answered, answerTo, after, afterAll, answered}
 use Rattle.session.specs.Records.{begun}
 use Rattle.session.specs.Theorems.{Shows, Exact, SessionsExact}
+use Rattle.session.proofs.Answering.{refused-keeps}
 use Rattle.session.proofs.CallAnswers.{answer-given}
 use Rattle.session.proofs.JustBegun.{begun-is, begun-stands}
 use Rattle.session.proofs.Judging.{solved-on}
 use Rattle.session.proofs.Standing.{Standing}
-use Rattle.session.proofs.Steps.{told, step-stands, refused-keeps}
+use Rattle.session.proofs.Steps.{told, step-stands}
 
 module _ (file : List ℕ) {node : NodeValues} (e : verdictOf file ≡ accepted node) where
   -- a list of calls keeps what stands
@@ -31,7 +32,7 @@ module _ (file : List ℕ) {node : NodeValues} (e : verdictOf file ≡ accepted 
       record {
         answers = answer-given file e c done s stands;
         judged = solved-on file e done (stands .shows .typed) (c .inputs);
-        keeps = refused-keeps s c;
+        keeps = λ number place. refused-keeps s (c .inputs) (c .slice);
       }
 
 pub sessions-exact : SessionsExact

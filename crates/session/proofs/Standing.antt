@@ -2,7 +2,7 @@
 -- refuses no call, and the values that a call works out are the solution's too.
 -- Assumes nothing.
 use mathlib.Core.Path.{_≡_, refl, sym, _∙_, ap, subst}
-use mathlib.Core.Bool.{Bool, true, false, not, _||_}
+use mathlib.Core.Bool.{Bool, true, false, _||_}
 use mathlib.Core.List.{List}
 use Prim.Native.Nat.{ℕ, zero, suc, _<_, _≤_}
 use native.Mathlib.Nat.{lt-suc-self}
@@ -30,9 +30,9 @@ use Rattle.streams.proofs.Numbers.{fits-test}
 use Rattle.streams.proofs.Orders.{byNumber, ranked-by-number, record-order}
 use Rattle.streams.proofs.Types.{types-kept}
 use Rattle.session.specs.declared.Session.{Session}
-use Rattle.session.specs.Instants.{workedOut}
+use Rattle.session.specs.Instants.{instantOf, workedOut}
 use Rattle.session.specs.Lists.{Answered}
-use Rattle.session.specs.Records.{held, lastFits, holdsNode}
+use Rattle.session.specs.Records.{held, unstarted, valueTyped, holdsNode}
 use Rattle.session.specs.Theorems.{StartsWith, Shows}
 use Rattle.session.proofs.Nodes.{node-same}
 
@@ -40,13 +40,13 @@ use Rattle.session.proofs.Nodes.{node-same}
 pub record Standing (file : List ℕ) (done : List Answered) (s : Session) : Type 0 where
   pub holds : held s ≡ withoutNote file
   pub short : s .length ≤ 1040
-  pub first : isFirst (length done) ≡ not (s .started)
+  pub first : isFirst (length done) ≡ unstarted s
   -- the last answered values are those of every solution on inputs that start with the answered ones
   pub last :
       (u : Inputs) → StartsWith done (length done) u
       → (v : Streams) → Solution (nodeOf file) u v
-      → SamePast (nodeOf file) (not (s .started)) (valuesIn (s .last)) (before v (length done))
-  pub fits : not (s .started) ≡ false → (i : ℕ) → i < streamsOf file → Fits (kindAt file i) (valuesIn (s .last) i)
+      → SamePast (nodeOf file) (unstarted s) (valuesIn (s .last)) (before v (length done))
+  pub fits : unstarted s ≡ false → (i : ℕ) → i < streamsOf file → Fits (kindAt file i) (valuesIn (s .last) i)
   pub shows : Shows file done
 
 every-of : (ok : ℕ → Bool) (n : ℕ) → ((k : ℕ) → k < n → ok k ≡ true) → every ok n ≡ true
@@ -61,7 +61,7 @@ module _ (file : List ℕ) {node : NodeValues} (e : verdictOf file ≡ accepted 
   pub held-node : nodeOf (held s) ≡ nodeOf file
   held-node = ap nodeOf (stands .holds) ∙ node-same file e
 
-  last-fits : not (s .started) ≡ false → every (lastFits s) (streamsOf (held s)) ≡ true
+  last-fits : unstarted s ≡ false → every (valueTyped (held s) (s .last)) (streamsOf (held s)) ≡ true
   last-fits past =
       ap (λ (n : Node). every (λ i. fitsTest (n .kinds i) (valuesIn (s .last) i)) (n .streams)) held-node
       ∙ every-of (λ i. fitsTest (kindAt file i) (valuesIn (s .last) i)) (streamsOf file)
@@ -71,42 +71,42 @@ module _ (file : List ℕ) {node : NodeValues} (e : verdictOf file ≡ accepted 
   pub holds-node : holdsNode s ≡ true
   unfolding holdsNode
   holds-node =
-      rw (le-leb (s .length) 1040 (stands .short), ap verdictOf (stands .holds) ∙ without-note-accepted file e) (go (not (s .started)) refl)
+      rw (le-leb (s .length) 1040 (stands .short), ap verdictOf (stands .holds) ∙ without-note-accepted file e) (go (unstarted s) refl)
     where
-      go : (b : Bool) → not (s .started) ≡ b → (b || every (lastFits s) (streamsOf (held s))) ≡ true
+      go : (b : Bool) → unstarted s ≡ b → (b || every (valueTyped (held s) (s .last)) (streamsOf (held s))) ≡ true
       go true past = refl
       go false past = last-fits past
 
   module _ (inputs : List ℤ) where
-    worked-out-by : workedOut s inputs ≡ instant (nodeOf file) (upTo (streamsOf file)) inputs (not (s .started)) (s .last)
-    unfolding workedOut
-    worked-out-by = ap (λ (n : Node). instant n (upTo (n .streams)) inputs (not (s .started)) (s .last)) held-node
+    worked-out-by : workedOut s inputs ≡ instant (nodeOf file) (upTo (streamsOf file)) inputs (unstarted s) (s .last)
+    unfolding instantOf
+    worked-out-by = ap (λ (n : Node). instant n (upTo (n .streams)) inputs (unstarted s) (s .last)) held-node
 
     pub worked-out-length : length (workedOut s inputs) ≡ streamsOf file
     worked-out-length =
         ap length worked-out-by
-        ∙ Evaluations.instant-length (nodeOf file) (upTo (streamsOf file)) inputs (not (s .started)) (s .last)
+        ∙ Evaluations.instant-length (nodeOf file) (upTo (streamsOf file)) inputs (unstarted s) (s .last)
 
-    worked-out-rows : Rows (nodeOf file) inputs (not (s .started)) (valuesIn (s .last)) (valuesIn (workedOut s inputs))
+    worked-out-rows : Rows (nodeOf file) inputs (unstarted s) (valuesIn (s .last)) (valuesIn (workedOut s inputs))
     worked-out-rows =
-        subst (λ (l : List ℤ). Rows (nodeOf file) inputs (not (s .started)) (valuesIn (s .last)) (valuesIn l)) (sym worked-out-by)
-        (Evaluations.instant-rows (nodeOf file) byNumber (upTo (streamsOf file)) (record-order (nodeOf file) wf) inputs (not (s .started)) (s .last))
+        subst (λ (l : List ℤ). Rows (nodeOf file) inputs (unstarted s) (valuesIn (s .last)) (valuesIn l)) (sym worked-out-by)
+        (Evaluations.instant-rows (nodeOf file) byNumber (upTo (streamsOf file)) (record-order (nodeOf file) wf) inputs (unstarted s) (s .last))
 
     -- every value worked out from typed inputs fits its type
     pub worked-out-fits : TypedInstant (nodeOf file) inputs → (i : ℕ) → i < streamsOf file → Fits (kindAt file i) (valuesIn (workedOut s inputs) i)
     worked-out-fits typed i l =
-        instant-keeps (nodeOf file) byNumber (ranked-by-number (nodeOf file) wf) (λ k. Fits (kindAt file k)) inputs (not (s .started)) (valuesIn (s .last)) (valuesIn (workedOut s inputs))
-        (types-kept (nodeOf file) wf inputs typed (not (s .started)))
+        instant-keeps (nodeOf file) byNumber (ranked-by-number (nodeOf file) wf) (λ k. Fits (kindAt file k)) inputs (unstarted s) (valuesIn (s .last)) (valuesIn (workedOut s inputs))
+        (types-kept (nodeOf file) wf inputs typed (unstarted s))
         worked-out-rows (stands .fits) (suc i) i l (lt-suc-self i)
 
     -- the values worked out are those of every solution on inputs that go on with these
     pub worked-out-is : (u : Inputs) → StartsWith done (length done) u → u (length done) ≡ inputs → (v : Streams) → Solution (nodeOf file) u v → (i : ℕ) → i < streamsOf file → valuesIn (workedOut s inputs) i ≡ v (length done) i
     worked-out-is u starts own v solves i l =
         ap (λ (k : List ℤ). valuesIn k i) worked-out-by
-        ∙ Evaluations.instant-is (nodeOf file) byNumber (upTo (streamsOf file)) (record-order (nodeOf file) wf) inputs (not (s .started)) (s .last) (before v (length done)) (v (length done))
+        ∙ Evaluations.instant-is (nodeOf file) byNumber (upTo (streamsOf file)) (record-order (nodeOf file) wf) inputs (unstarted s) (s .last) (before v (length done)) (v (length done))
         (stands .last u starts v solves) rows i l
       where
-        rows : Rows (nodeOf file) inputs (not (s .started)) (before v (length done)) (v (length done))
+        rows : Rows (nodeOf file) inputs (unstarted s) (before v (length done)) (v (length done))
         rows =
             subst (λ (first : Bool). Rows (nodeOf file) inputs first (before v (length done)) (v (length done))) (stands .first)
             (subst (λ (k : List ℤ). Rows (nodeOf file) k (isFirst (length done)) (before v (length done)) (v (length done))) own (solves .holds (length done)))

@@ -7,7 +7,6 @@ use native.Mathlib.Nat.{le-refl}
 use native.Mathlib.Omega.{arith}
 use lib.IntN.{ℤ, pos}
 use lib.ListN.{length, List·getD-append}
-use Rattle.answers.specs.declared.Place.{Place}
 use Rattle.answers.specs.Answer.{Answer, accepted, refused, NodeValues, ifAccepted}
 use Rattle.node.specs.Equations.{kindAt}
 use Rattle.node.specs.Layout.{streamsOf}
@@ -24,10 +23,6 @@ use Rattle.session.specs.Theorems.{StartsWith}
 use Rattle.session.proofs.CallAnswers.{answered-typed}
 use Rattle.session.proofs.Showing.{more-length, call-own, starts-before, shows-more}
 use Rattle.session.proofs.Standing.{Standing, worked-out-length, worked-out-fits, worked-out-is}
-
-pub refused-keeps : (s : Session) (c : Call) (number : ℕ) (place : Place) → answerTo s c ≡ refused number place → (after s c ≡ s) × (sliceAfter s c ≡ c .slice)
-unfolding sessionOf sliceOf
-refused-keeps s c number place e = (rw e, rw e)
 
 -- an answered call
 abbrev pub told : Session → Call → Answered

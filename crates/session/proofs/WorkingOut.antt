@@ -29,8 +29,9 @@ use Rattle.streams.specs.Solutions.{row}
 use Rattle.streams.specs.Values.{valuesIn}
 use Rattle.streams.proofs.Evaluations.{evaluated-length}
 use Rattle.streams.proofs.Orders.{upTo-length, upTo-at}
-use Rattle.session.specs.Working.{isValue, numberIn, instantOf, valueInside}
+use Rattle.session.specs.Instants.{instantOf, valueInside}
 use Rattle.session.specs.Records.{filled}
+use Rattle.session.specs.Working.{isValue, numberIn}
 use Rattle.session.proofs.Filled.{same-everywhere, is-filled}
 
 -- a stream that was found was found

@@ -1,10 +1,10 @@
 -- The outcome of an instant's call: answer, record and slice. "Every refusal leaves session and slices as before the call."
 use Prim.Native.Nat.{ℕ}
 use mathlib.Core.List.{List}
-use mathlib.Core.Bool.{Bool, true, not, _||_}
+use mathlib.Core.Bool.{Bool, not, _||_}
 use lib.Dec.{eqb}
 use lib.IntN.{ℤ, pos}
-use lib.ListN.{length}
+use lib.ListN.{length, replicate}
 use Rattle.integers.specs.Range.{inside}
 use Rattle.answers.specs.declared.Place.the-variants.{File, Record as AtRecord}
 use Rattle.answers.specs.Answer.{Answer, accepted, ifAccepted}
@@ -17,19 +17,23 @@ use Rattle.streams.specs.Nodes.{nodeOf}
 use Rattle.streams.specs.Typing.{fitsTest, given}
 use Rattle.streams.specs.Values.{valuesIn}
 use Rattle.session.specs.declared.Session.{Session}
-use Rattle.session.specs.Records.{held, holdsNode, filled}
+use Rattle.session.specs.Records.{filled, held, unstarted, holdsNode}
 
 -- 33: "bool input not 0 or 1", of record i
 unfoldable pub inputFits : (file : List ℕ) → (inputs : List ℤ) → (i : ℕ) → Bool
 inputFits file inputs i = not (isInput file i) || fitsTest (kindAt file i) (given (nodeOf file) inputs i)
 
 -- "All n streams are worked out, untaken branches too", over whole numbers
-unfoldable pub workedOut : Session → (inputs : List ℤ) → List ℤ
-workedOut s inputs = instant (nodeOf (held s)) (upTo (streamsOf (held s))) inputs (not (s .started)) (s .last)
+unfoldable pub instantOf : (file : List ℕ) → (inputs : List ℤ) → (first : Bool) → (past : List ℤ) → List ℤ
+instantOf file inputs first past = instant (nodeOf file) (upTo (streamsOf file)) inputs first past
+
+-- .. of the held node
+abbrev pub workedOut : Session → (inputs : List ℤ) → List ℤ
+workedOut s inputs = instantOf (held s) inputs (unstarted s) (s .last)
 
 -- 34: "value outside −2^63 to 2^63 − 1", of stream i
-unfoldable pub valueFits : Session → (inputs : List ℤ) → (i : ℕ) → Bool
-valueFits s inputs i = inside (valuesIn (workedOut s inputs) i)
+abbrev pub valueInside : (values : List ℤ) → (i : ℕ) → Bool
+valueInside values i = inside (valuesIn values i)
 
 -- 30 to 34 in order, for a slice of `room` values
 unfoldable pub answerOf : Session → (inputs : List ℤ) → (room : ℕ) → Answer (Unit {0})
@@ -38,13 +42,16 @@ answerOf s inputs room =
     (check (eqb (length inputs) (inputCount (held s))) 31 File
     (check (eqb room (streamsOf (held s))) 32 File
     (checkAll (lowest (inputFits (held s) inputs) (streamsOf (held s))) 33 AtRecord
-    (checkAll (lowest (valueFits s inputs) (streamsOf (held s))) 34 AtRecord
+    (checkAll (lowest (valueInside (workedOut s inputs)) (streamsOf (held s))) 34 AtRecord
     (accepted tt)))))
 
--- the record that an answered call leaves
+-- the record that an answered call leaves: past instant 0, with the instant's values
+abbrev pub movedTo : Session → (values : List ℤ) → Session
+movedTo s values =
+    record { length = s .length; last = values; file = s .file; started = 1; spare = replicate 7 0 }
+
 abbrev pub movedOn : Session → (inputs : List ℤ) → Session
-movedOn s inputs =
-    record { file = s .file; length = s .length; started = true; last = filled 64 (pos 0) (workedOut s inputs) }
+movedOn s inputs = movedTo s (filled 64 (pos 0) (workedOut s inputs))
 
 unfoldable pub sessionOf : Session → (inputs : List ℤ) → (room : ℕ) → Session
 sessionOf s inputs room = ifAccepted (answerOf s inputs room) (movedOn s inputs) s

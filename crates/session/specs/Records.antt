@@ -1,9 +1,9 @@
 -- The session record: "The caller lends the session record, and an answered instant moves that very record on."
 use Prim.Native.Nat.{ℕ, _-_}
 use mathlib.Core.List.{List, _++_}
-use mathlib.Core.Bool.{Bool, false, not, _&&_, _||_}
-use lib.Dec.{leb}
-use lib.IntN.{pos}
+use mathlib.Core.Bool.{Bool, _&&_, _||_}
+use lib.Dec.{leb, eqb}
+use lib.IntN.{ℤ, pos}
 use lib.ListN.{length, take, replicate}
 use Rattle.answers.specs.Answer.{ifAccepted, isAccepted}
 use Rattle.answers.specs.Checks.{every}
@@ -24,10 +24,11 @@ filled n z l = l ++ replicate (n - length l) z
 abbrev pub begun : (file : List ℕ) → Session
 begun file =
     record {
-      file = filled 1040 0 (withoutNote file);
       length = length (withoutNote file);
-      started = false;
       last = replicate 64 (pos 0);
+      file = filled 1040 0 (withoutNote file);
+      started = 0;
+      spare = replicate 7 0;
     }
 
 -- the record after a beginning
@@ -38,13 +39,18 @@ begunOf file before = ifAccepted (verdictOf file) (begun file) before
 abbrev pub held : Session → List ℕ
 held s = take (s .length) (s .file)
 
--- stream i of the last answered instant fits its type
-abbrev pub lastFits : Session → (i : ℕ) → Bool
-lastFits s i = fitsTest (kindAt (held s) i) (valuesIn (s .last) i)
+-- before instant 0: any other byte says that an instant was answered
+abbrev pub unstarted : Session → Bool
+unstarted s = eqb (s .started) 0
+
+-- value i of a list fits the type of stream i
+abbrev pub valueTyped : (file : List ℕ) → (values : List ℤ) → (i : ℕ) → Bool
+valueTyped file values i = fitsTest (kindAt file i) (valuesIn values i)
+
+-- a node "passing 1 to 8", and, past instant 0, values of which each bool is "0 or 1"
+abbrev pub isNode : (file : List ℕ) → (first : Bool) → (last : List ℤ) → Bool
+isNode file first last = isAccepted (verdictOf file) && (first || every (valueTyped file last) (streamsOf file))
 
 -- 30: "record holds no node passing 1 to 8, or, past instant 0, a bool of the last answered instant is not 0 or 1"
 unfoldable pub holdsNode : Session → Bool
-holdsNode s =
-    leb (s .length) 1040
-    && isAccepted (verdictOf (held s))
-    && (not (s .started) || every (lastFits s) (streamsOf (held s)))
+holdsNode s = leb (s .length) 1040 && isNode (held s) (unstarted s) (s .last)

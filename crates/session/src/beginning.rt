@@ -1,7 +1,6 @@
 // A beginning, by value.
 use crate::Session;
 use answers::NodeVerdict;
-use node::note_length;
 use node::verdict;
 ghost use Prim.Native.Nat.{_+_, _≤_};
 ghost use mathlib.Core.Path.{_≡_};
@@ -31,18 +30,19 @@ fn copy_from(file: &[u8], start: usize) -> [u8; 1040]
     copy
 }
 
-// A record set to an accepted file's node, before instant 0.
+// A record set to an accepted file's node, before instant 0: its records and trailer are the file's last bytes.
 fn session_on(file: &[u8], streams: usize, property: usize) -> Session
     requires { ⌜ verdictOf (now file) ≡ accepted (record { streams = streams; property = property }) ⌝ }
     ensures { λ r. ⌜ r ≡ begunOn (now (file .entry)) ⌝ }
 {
-    let start = note_length(file);
-    let copy = copy_from(file, start);
+    let length = 16 + 16 * streams;
+    let file = copy_from(file, file.len() - length);
     Session {
-        file: copy,
-        length: file.len() - start,
-        started: false,
+        length,
         last: [0i64; 64],
+        file,
+        started: 0,
+        spare: [0u8; 7],
     }
 }
 

@@ -8,7 +8,8 @@ ghost use mathlib.Core.Path.{_≡_};
 ghost use lib.ListN.{length};
 ghost use Rattle.answers.specs.Checks.{every};
 ghost use Rattle.node.specs.Layout.{recordsOf};
-ghost use Rattle.session.specs.Working.{valueTyped, nodeIn, nodeHeld};
+ghost use Rattle.session.specs.Records.{valueTyped};
+ghost use Rattle.session.specs.Working.{nodeIn, nodeHeld};
 
 // The node that a record holds: how many streams it has.
 pub enum Held {
@@ -31,16 +32,16 @@ fn are_typed(file: &[u8], values: &[i64], n: usize) -> bool
     true
 }
 
-// The node of a file, past instant 0 with the last answered values.
-fn node_in(file: &[u8], started: bool, last: &[i64]) -> Held
-    ensures { λ r. ⌜ r ≡ nodeIn (now (file .entry)) started (now (last .entry)) ⌝ }
+// The node of a file: before instant 0, or with the last answered values.
+fn node_in(file: &[u8], first: bool, last: &[i64]) -> Held
+    ensures { λ r. ⌜ r ≡ nodeIn (now (file .entry)) first (now (last .entry)) ⌝ }
 {
     match verdict(file) {
         NodeVerdict::Accepted {
             streams,
             property: _,
         } => {
-            if !started | are_typed(file, last, streams) {
+            if first | are_typed(file, last, streams) {
                 Held::Streams(streams)
             } else {
                 Held::NoNode
@@ -51,12 +52,12 @@ fn node_in(file: &[u8], started: bool, last: &[i64]) -> Held
 }
 
 // The node of a record with these parts. A record is anyone's to fill: its length is looked at before its file is.
-pub fn node_held(file: &[u8], size: usize, started: bool, last: &[i64]) -> Held
+pub fn node_held(file: &[u8], size: usize, first: bool, last: &[i64]) -> Held
     requires { ⌜ length (now file) ≡ 1040 ⌝ }
-    ensures { λ r. ⌜ r ≡ nodeHeld (record { file = now (file .entry); length = size; started = started; last = now (last .entry) }) ⌝ }
+    ensures { λ r. ⌜ r ≡ nodeHeld (now (file .entry)) size first (now (last .entry)) ⌝ }
 {
     if 1040 < size {
         return Held::NoNode;
     }
-    node_in(&file[..size], started, last)
+    node_in(&file[..size], first, last)
 }

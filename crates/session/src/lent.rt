@@ -1,7 +1,7 @@
 // The published calls: the caller lends the record.
 use crate::Session;
 use crate::beginning::begun;
-use crate::stepping::work;
+use crate::stepping::step;
 use answers::InstantVerdict;
 use answers::NodeVerdict;
 ghost use mathlib.Core.Path.{_≡_};
@@ -26,7 +26,7 @@ pub fn instant(s: &mut Session, inputs: &[i64], values: &mut [i64]) -> InstantVe
         × (now (s .exit) ≡ sessionOf (now (s .entry)) (now (inputs .entry)) (length (now (values .entry))))
         × (now (values .exit) ≡ sliceOf (now (s .entry)) (now (inputs .entry)) (now (values .entry))) ⌝ }
 {
-    let t = work(*s, inputs, values);
+    let t = step(*s, inputs, values);
     *s = t.session;
     t.answer
 }

@@ -14,12 +14,15 @@ pub use beginning::begun;
 pub use lent::begin;
 pub use lent::instant;
 pub use stepping::Stepped;
-pub use stepping::work;
+pub use stepping::step;
 
-// The session record: the node file without its note, whether an instant was answered, and the last answered values.
+// The session record: the node file without its note and its length, whether an instant was answered, and the last answered values.
+// C and Rust lend it too: any bytes make a record, and it has no padding, for the last field fills it up.
+#[repr(C)]
 pub struct Session {
-    pub file: [u8; 1040],
     pub length: usize,
-    pub started: bool,
     pub last: [i64; 64],
+    pub file: [u8; 1040],
+    pub started: u8,
+    pub spare: [u8; 7],
 }

@@ -39,7 +39,8 @@ pub fn outcome_of(s: Session, inputs: &[i64], room: usize) -> Outcome
     let length = s.length;
     let file = s.file;
     let last = s.last;
-    let Held::Streams(n) = node_held(&file, length, s.started, &last) else {
+    let first = s.started == 0;
+    let Held::Streams(n) = node_held(&file, length, first, &last) else {
         return refused(refusals::NO_NODE, Place::File);
     };
     let node = &file[..length];
@@ -52,7 +53,7 @@ pub fn outcome_of(s: Session, inputs: &[i64], room: usize) -> Outcome
     if let Found::At(i) = first_bad(node, inputs, n) {
         return refused(refusals::BOOL_INPUT, Place::Record(i));
     }
-    let worked = worked_out(node, inputs, !s.started, &last, n);
+    let worked = worked_out(node, inputs, first, &last, n);
     let outside = worked.outside;
     if let Found::At(i) = outside {
         return refused(refusals::OUTSIDE_RANGE, Place::Record(i));

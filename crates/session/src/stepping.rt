@@ -6,24 +6,13 @@ ghost use Prim.Native.Nat.{_≤_};
 ghost use mathlib.Core.Path.{_≡_};
 ghost use mathlib.Core.List.{_++_};
 ghost use lib.ListN.{length, take, drop};
-ghost use Rattle.answers.specs.Answer.{instantAnswer, ifAccepted};
-ghost use Rattle.session.specs.Instants.{answerOf, sessionOf, sliceOf};
-ghost use Rattle.session.specs.Working.{movedTo};
+ghost use Rattle.answers.specs.Answer.{instantAnswer};
+ghost use Rattle.session.specs.Instants.{answerOf, movedTo, sessionOf, sliceOf};
 
 // The answer, and the record that the call leaves.
 pub struct Stepped {
     pub answer: InstantVerdict,
     pub session: Session,
-}
-
-// How many values a call writes: a refusal none.
-fn written(answer: InstantVerdict, room: usize) -> usize
-    ensures { λ r. ⌜ r ≡ ifAccepted (instantAnswer answer) room 0 ⌝ }
-{
-    match answer {
-        InstantVerdict::Answered => room,
-        InstantVerdict::Refused(_, _) => 0,
-    }
 }
 
 // The slice takes the first n values.
@@ -38,36 +27,41 @@ fn fill(out: &mut [i64], values: [i64; 64], n: usize)
     }
 }
 
-// The record that a call leaves: a refusal moves nothing.
-fn record_after(s: Session, answer: InstantVerdict, values: [i64; 64]) -> Session
-    ensures { λ r. ⌜ r ≡ ifAccepted (instantAnswer answer) (movedTo s values) s ⌝ }
+// The record with an answered instant's values.
+fn moved_to(s: Session, values: [i64; 64]) -> Session
+    ensures { λ r. ⌜ r ≡ movedTo s values ⌝ }
 {
     let file = s.file;
-    let next = Session {
-        file,
+    Session {
         length: s.length,
-        started: true,
         last: values,
-    };
-    match answer {
-        InstantVerdict::Answered => next,
-        InstantVerdict::Refused(_, _) => s,
+        file,
+        started: 1,
+        spare: [0u8; 7],
     }
 }
 
-// An instant's call. The slice is written once nothing can be refused any more.
-pub fn work(s: Session, inputs: &[i64], out: &mut [i64]) -> Stepped
+// An instant's call. Record and slice are written once nothing can be refused any more.
+pub fn step(s: Session, inputs: &[i64], out: &mut [i64]) -> Stepped
     ensures { λ r. ⌜ (instantAnswer (r .answer) ≡ answerOf s (now (inputs .entry)) (length (now (out .entry))))
         × (r .session ≡ sessionOf s (now (inputs .entry)) (length (now (out .entry))))
         × (now (out .exit) ≡ sliceOf s (now (inputs .entry)) (now (out .entry))) ⌝ }
 {
-    let outcome = outcome_of(s, inputs, out.len());
+    let room = out.len();
+    let outcome = outcome_of(s, inputs, room);
     let answer = outcome.answer;
-    let values = outcome.values;
-    let n = written(answer, out.len());
-    fill(out, values, n);
-    Stepped {
-        answer,
-        session: record_after(s, answer, values),
+    match answer {
+        InstantVerdict::Answered => {
+            let values = outcome.values;
+            fill(out, values, room);
+            Stepped {
+                answer: InstantVerdict::Answered,
+                session: moved_to(s, values),
+            }
+        }
+        InstantVerdict::Refused(number, place) => Stepped {
+            answer: InstantVerdict::Refused(number, place),
+            session: s,
+        },
     }
 }

@@ -16,8 +16,9 @@ ghost use Rattle.node.specs.Equations.{equationAt};
 ghost use Rattle.node.specs.Layout.{streamsOf, recordsOf};
 ghost use Rattle.streams.specs.Meaning.{meaning};
 ghost use Rattle.streams.specs.Values.{valuesIn};
+ghost use Rattle.session.specs.Instants.{instantOf, valueInside};
 ghost use Rattle.session.specs.Records.{filled};
-ghost use Rattle.session.specs.Working.{isValue, numberIn, instantOf, valueInside};
+ghost use Rattle.session.specs.Working.{isValue, numberIn};
 
 // The lowest stream whose value 64 signed bits do not hold, and the values where there is none.
 pub struct Worked {

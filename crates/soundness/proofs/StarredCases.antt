@@ -28,7 +28,7 @@ use Rattle.rules.specs.Lines.{slotOk, numbersOk, shapeOk as lineShape, baseProp
 use Rattle.rules.specs.Verdict.{shapePasses, kindPasses, linesVerdict, constraintsVerdict, certificateVerdict, verdictOf}
 use Rattle.streams.specs.Evaluation.{upTo, evaluated, instant}
 use Rattle.streams.specs.Values.{equals, truth, valuesIn}
-use Rattle.session.specs.Instants.{inputFits, workedOut, valueFits, answerOf, sliceOf}
+use Rattle.session.specs.Instants.{inputFits, instantOf, workedOut, answerOf, sliceOf}
 use Rattle.session.specs.Lists.{Call}
 use Rattle.session.specs.Records.{begun, holdsNode}
 use Rattle.session.proofs.CallAnswers.{answered-typed}
@@ -69,19 +69,19 @@ answers-by c known =
     }
 
 both-asked : Computed bothAsked
-unfolding twoBands nodeFile recordBytes trailerBytes nodeVerdict recordsVerdict lengthOk fixedOk countsOk distanceOk lowest shapeOk unusedOk operandsOk typesOk propertyOk rowOf recordsOf recordOf twosComplement every kindAt decoded inputsBelow noteLength upTo evaluated instant equals truth inputFits workedOut valueFits answerOf holdsNode inside
+unfolding twoBands nodeFile recordBytes trailerBytes nodeVerdict recordsVerdict lengthOk fixedOk countsOk distanceOk lowest shapeOk unusedOk operandsOk typesOk propertyOk rowOf recordsOf recordOf twosComplement every kindAt decoded inputsBelow noteLength upTo evaluated instant equals truth inputFits instantOf answerOf holdsNode inside
 both-asked = record { node = record { streams = 6; property = 5 }; is-accepted = refl; answered = refl; values = refl }
 
 greatest-doubled : Computed greatestDoubled
-unfolding doubling nodeFile recordBytes trailerBytes nodeVerdict recordsVerdict lengthOk fixedOk countsOk distanceOk lowest shapeOk unusedOk operandsOk typesOk propertyOk rowOf recordsOf recordOf twosComplement every kindAt decoded inputsBelow noteLength upTo evaluated instant equals truth inputFits workedOut valueFits answerOf holdsNode inside
+unfolding doubling nodeFile recordBytes trailerBytes nodeVerdict recordsVerdict lengthOk fixedOk countsOk distanceOk lowest shapeOk unusedOk operandsOk typesOk propertyOk rowOf recordsOf recordOf twosComplement every kindAt decoded inputsBelow noteLength upTo evaluated instant equals truth inputFits instantOf answerOf holdsNode inside
 greatest-doubled = record { node = record { streams = 3; property = 2 }; is-accepted = refl; answered = refl; values = refl }
 
 one-more : Holds (refuses doubling (pos 4611686018427387904 ∷ []) 34 (AtRecord 1))
-unfolding doubling nodeFile recordBytes trailerBytes nodeVerdict recordsVerdict lengthOk fixedOk countsOk distanceOk lowest shapeOk unusedOk operandsOk typesOk propertyOk rowOf recordsOf recordOf twosComplement every kindAt decoded inputsBelow noteLength upTo evaluated instant equals truth inputFits workedOut valueFits answerOf holdsNode inside
+unfolding doubling nodeFile recordBytes trailerBytes nodeVerdict recordsVerdict lengthOk fixedOk countsOk distanceOk lowest shapeOk unusedOk operandsOk typesOk propertyOk rowOf recordsOf recordOf twosComplement every kindAt decoded inputsBelow noteLength upTo evaluated instant equals truth inputFits instantOf answerOf holdsNode inside
 one-more = refl
 
 least-doubled : Computed leastDoubled
-unfolding doubling nodeFile recordBytes trailerBytes nodeVerdict recordsVerdict lengthOk fixedOk countsOk distanceOk lowest shapeOk unusedOk operandsOk typesOk propertyOk rowOf recordsOf recordOf twosComplement every kindAt decoded inputsBelow noteLength upTo evaluated instant equals truth inputFits workedOut valueFits answerOf holdsNode inside
+unfolding doubling nodeFile recordBytes trailerBytes nodeVerdict recordsVerdict lengthOk fixedOk countsOk distanceOk lowest shapeOk unusedOk operandsOk typesOk propertyOk rowOf recordsOf recordOf twosComplement every kindAt decoded inputsBelow noteLength upTo evaluated instant equals truth inputFits instantOf answerOf holdsNode inside
 least-doubled = record { node = record { streams = 3; property = 2 }; is-accepted = refl; answered = refl; values = refl }
 
 opposites-pass : Holds (checks trueAndInts (opposites (minusOne 8) (noughts 8)) (accepted (record { depth = 1; base = 4; step = 3 })))

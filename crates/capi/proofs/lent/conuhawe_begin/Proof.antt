@@ -40,14 +40,14 @@ use denote.Triple.Walked.{says, Stays, stay-ref, stay-none-slice, walkOf, goes-r
 use denote.Exit.{yes}
 use denote.Signature.{plain}
 use Rattle.node.specs.Verdict.{verdictOf}
-use Rattle.capi.specs.declared.records.SessionRecord.{SessionRecord}
+use Rattle.session.specs.declared.Session.{Session}
 use Rattle.capi.specs.declared.told.Told.{Told}
 use Rattle.capi.specs.declared.answered.BegunRecord.{BegunRecord}
 use Rattle.capi.specs.Answers.{toldNode}
-use Rattle.capi.specs.Records.{recordBegun}
+use Rattle.session.specs.Records.{begunOf}
 use Rattle.session.proofs.Kept.{Lent, mach, Held, fits, made, opened, closed, freed}
-use Rattle.capi.proofs.records.SessionRecord as Record
-use Rattle.capi.proofs.records.SessionRecord.Laws as Record′
+use Rattle.session.proofs.Session as Record
+use Rattle.session.proofs.Session.Laws as Record′
 use Rattle.capi.proofs.told.Told as Answer
 use Rattle.capi.proofs.told.Told.Laws as Answer′
 use Rattle.capi.proofs.answered.BegunRecord as Result
@@ -86,7 +86,7 @@ answer-is r w g = LL.owed Result.the-type Result′.the-laws r _ g .0
 record-is : (r : BegunRecord) (w : Val) → Is Result.the-row r (w ∷ []) → Held lent (r .record)
 record-is r w g = LL.owed Result.the-type Result′.the-laws r _ g .1 .0
 
-module _ {M : Type 1} (𝓤 : URA M) (H : Heap 𝓤) (A : Atoms 𝓤) (W : Given 𝓤 H A) (at-mem : Memory → SProp 𝓤) (run : Routine → Fun 𝓤) (κ κ₁ : Lft) (q q₁ : Share) (b o : ℕ) (γ : GName) (h : SessionRecord) (x : RefT (List ℕ)) where
+module _ {M : Type 1} (𝓤 : URA M) (H : Heap 𝓤) (A : Atoms 𝓤) (W : Given 𝓤 H A) (at-mem : Memory → SProp 𝓤) (run : Routine → Fun 𝓤) (κ κ₁ : Lft) (q q₁ : Share) (b o : ℕ) (γ : GName) (h : Session) (x : RefT (List ℕ)) where
   -- the slice's machine value, and what it owns
   abbrev sx : Val
   sx = sliceVal (x .ptr) (length (x .now))
@@ -98,7 +98,7 @@ module _ {M : Type 1} (𝓤 : URA M) (H : Heap 𝓤) (A : Atoms 𝓤) (W : Given
   Toks = ‵ (flft κ₁ q₁) ⊛ ‵ ftrue
 
   abbrev Arg : Type 0
-  Arg = RefT SessionRecord × (RefT (List ℕ) × Unit {0})
+  Arg = RefT Session × (RefT (List ℕ) × Unit {0})
 
   abbrev a : Arg
   a = (record { ptr = (b, o); name = γ; now = h }, (x, tt))
@@ -117,7 +117,7 @@ module _ {M : Type 1} (𝓤 : URA M) (H : Heap 𝓤) (A : Atoms 𝓤) (W : Given
   goes g = qed W (Toks ∷ ‵ OwnX ∷ []) ∵ nothing ! $ move ! (2 ∷ 0 ∷ []) $ fjoin ! $ made lent ! h g $ fjoin ! $ move ! (1 ∷ 0 ∷ []) $ join ! $ frame ! $ done !
 
   abbrev Said : BegunRecord → Type 0
-  Said r = (r .answer ≡ toldNode (verdictOf (now x))) × (r .record ≡ recordBegun (now x) h)
+  Said r = (r .answer ≡ toldNode (verdictOf (now x))) × (r .record ≡ begunOf (now x) h)
 
   said : (r : BegunRecord) → ent 𝓤 (ensured 𝓤 H A callee.ended (callee.clauses 𝓤 H A at-mem run) (κ₁, tt) (h, (x, tt)) tt r) (fact 𝓤 (Said r))
   said r = exE 𝓤 _ (λ ws. snd∗ 𝓤 (sem 𝓤 H A (lasts callee.ended (κ₁, tt) (h, (x, tt)) ws)) (fact 𝓤 (Said r)))

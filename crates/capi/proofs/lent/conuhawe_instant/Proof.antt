@@ -41,14 +41,14 @@ use denote.Triple.Table.{entered, cited}
 use denote.Triple.Walked.{says, Stays, stay-ref, stay-none-slice, gave-slice, walkOf, goes-ref, goes-none-slice, goes-gave-slice, Walks, ends-at, walked, walk-meets}
 use denote.Exit.{yes}
 use denote.Signature.{plain}
-use Rattle.capi.specs.declared.records.SessionRecord.{SessionRecord}
+use Rattle.session.specs.declared.Session.{Session}
 use Rattle.capi.specs.declared.told.Told.{Told}
 use Rattle.capi.specs.declared.answered.SteppedRecord.{SteppedRecord}
 use Rattle.capi.specs.Answers.{toldInstant}
-use Rattle.capi.specs.Records.{answerOn, recordAfter, sliceAfter}
+use Rattle.session.specs.Instants.{answerOf, sessionOf, sliceOf}
 use Rattle.session.proofs.Kept.{Lent, mach, Held, fits, made, opened, closed, freed}
-use Rattle.capi.proofs.records.SessionRecord as Record
-use Rattle.capi.proofs.records.SessionRecord.Laws as Record′
+use Rattle.session.proofs.Session as Record
+use Rattle.session.proofs.Session.Laws as Record′
 use Rattle.capi.proofs.told.Told as Answer
 use Rattle.capi.proofs.told.Told.Laws as Answer′
 use Rattle.capi.proofs.answered.SteppedRecord as Result
@@ -87,7 +87,7 @@ answer-is r w g = LL.owed Result.the-type Result′.the-laws r _ g .0
 record-is : (r : SteppedRecord) (w : Val) → Is Result.the-row r (w ∷ []) → Held lent (r .record)
 record-is r w g = LL.owed Result.the-type Result′.the-laws r _ g .1 .0
 
-module _ {M : Type 1} (𝓤 : URA M) (H : Heap 𝓤) (A : Atoms 𝓤) (W : Given 𝓤 H A) (at-mem : Memory → SProp 𝓤) (run : Routine → Fun 𝓤) (κ κ₁ κ₂ : Lft) (q q₁ q₂ : Share) (b o : ℕ) (γ : GName) (h : SessionRecord) (x y : RefT (List ℤ)) where
+module _ {M : Type 1} (𝓤 : URA M) (H : Heap 𝓤) (A : Atoms 𝓤) (W : Given 𝓤 H A) (at-mem : Memory → SProp 𝓤) (run : Routine → Fun 𝓤) (κ κ₁ κ₂ : Lft) (q q₁ q₂ : Share) (b o : ℕ) (γ : GName) (h : Session) (x y : RefT (List ℤ)) where
   -- the slices' machine values, and what they own
   abbrev sx : Val
   sx = sliceVal (x .ptr) (length (x .now))
@@ -105,7 +105,7 @@ module _ {M : Type 1} (𝓤 : URA M) (H : Heap 𝓤) (A : Atoms 𝓤) (W : Given
   Toks = ‵ (flft κ₁ q₁) ⊛ ‵ (flft κ₂ q₂) ⊛ ‵ ftrue
 
   abbrev Arg : Type 0
-  Arg = RefT SessionRecord × (RefT (List ℤ) × (RefT (List ℤ) × Unit {0}))
+  Arg = RefT Session × (RefT (List ℤ) × (RefT (List ℤ) × Unit {0}))
 
   abbrev a : Arg
   a = (record { ptr = (b, o); name = γ; now = h }, (x, (y, tt)))
@@ -125,7 +125,7 @@ module _ {M : Type 1} (𝓤 : URA M) (H : Heap 𝓤) (A : Atoms 𝓤) (W : Given
       qed W (Toks ∷ ‵ OwnX ∷ ‵ OwnY ∷ []) ∵ nothing ! $ move ! (3 ∷ 0 ∷ []) $ fjoin ! $ move ! (2 ∷ 0 ∷ []) $ fjoin ! $ made lent ! h g $ fjoin ! $ move ! (1 ∷ 0 ∷ []) $ join ! $ frame ! $ done !
 
   abbrev Said : SteppedRecord → List ℤ → Type 0
-  Said r zs = (r .answer ≡ toldInstant (answerOn h (now x) (length (now y)))) × (r .record ≡ recordAfter h (now x) (length (now y))) × (zs ≡ sliceAfter h (now x) (now y))
+  Said r zs = (r .answer ≡ toldInstant (answerOf h (now x) (length (now y)))) × (r .record ≡ sessionOf h (now x) (length (now y))) × (zs ≡ sliceOf h (now x) (now y))
 
   exits : (r : SteppedRecord) (zs : List ℤ) → Said r zs → length zs ≡ length (now y) → AnswerIs (r .answer)
       → ent 𝓤 (⋆ 𝓤 H A (‵ (fobs γ (Record.the-row .coded .code (r .record))) ∷ ‵ (fbor κ (Body (mem Record.the-row) b o γ)) ∷ ‵ (flft κ q) ∷ Toks ∷ ‵ OwnX ∷ ‵ (finally i64 (y .name) zs) ∷ [])) (Post (answer-val (r .answer)))

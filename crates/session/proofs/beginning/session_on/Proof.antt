@@ -1,22 +1,26 @@
 -- `session::session_on` meets its contract: the file without its note, before instant 0.
 -- Assumes nothing.
-use Rattle.node.proofs.Notes.{note-fits}
-use Rattle.session.proofs.Beginnings.{fits-record, begun-is}
+use native.Mathlib.Omega.{arith}
+use Rattle.node.proofs.Notes.{accepted-room}
+use Rattle.session.proofs.Beginnings.{few-streams, begun-is}
 use borrow.Author.Needs.{needs}
 use Rattle.session.proofs.beginning.session_on.Statement.{statement}
 use Rattle.session.proofs.beginning.session_on.Tie as tie
 
-note-length-requires : tie.Need-note-length-requires
-note-length-requires c κs = search needs
+mul-length : tie.Need-mul-length
+mul-length c = omega (arith, few-streams _ (c .before .pre))
+
+add-length : tie.Need-add-length
+add-length c = omega (arith, few-streams _ (c .before .pre))
+
+sub-copy-from : tie.Need-sub-copy-from
+sub-copy-from c = accepted-room _ (c .before .pre)
 
 copy-from-requires : tie.Need-copy-from-requires
-copy-from-requires c κs = rw (c .note-length .ensures) (note-fits _, fits-record _ (c .before .before .pre))
-
-sub-t7 : tie.Need-sub-t7
-sub-t7 c = rw (c .before .note-length .ensures) (note-fits _)
+copy-from-requires c κs = (omega arith, omega (arith, few-streams _ (c .before .pre)))
 
 returns : tie.Need-returns
-returns c = begun-is _ _ _ (c .before .note-length .ensures) (c .copy-from .ensures)
+returns c = begun-is _ (c .before .before .pre) _ (c .copy-from .ensures)
 
 pub session-on-spec : {M : Type 1} → statement M
-session-on-spec = tie.close (tie.spec note-length-requires copy-from-requires sub-t7 returns)
+session-on-spec = tie.close (tie.spec mul-length add-length sub-copy-from copy-from-requires returns)

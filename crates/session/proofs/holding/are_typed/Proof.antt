@@ -9,7 +9,7 @@ use borrow.Author.Tests.{not-true, not-false}
 use Rattle.answers.specs.Checks.{every}
 use Rattle.answers.proofs.Every.{every-none, every-more, every-not}
 use Rattle.node.proofs.Records.{kind-among}
-use Rattle.session.specs.Working.{valueTyped}
+use Rattle.session.specs.Records.{valueTyped}
 use Rattle.session.proofs.Typed.{typed-is}
 use borrow.Author.Needs.{needs}
 use Rattle.session.proofs.holding.are_typed.Statement.{statement}

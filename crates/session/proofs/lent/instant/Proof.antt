@@ -1,6 +1,6 @@
--- `session::instant` meets its contract: a walk of its MIR, by hand. The borrow is opened, the record is read and passed to `work`
+-- `session::instant` meets its contract: a walk of its MIR, by hand. The borrow is opened, the record is read and passed to `step`
 -- with the slices, the record that comes back is stored, and the borrow is closed at it. The slice of values is given up for good to
--- `work`: what that says of its last list is what is said here. All that the walk knows of `work` is its contract.
+-- `step`: what that says of its last list is what is said here. All that the walk knows of `step` is its contract.
 -- Assumes nothing.
 use mathlib.Core.Path.{_≡_, refl, ap}
 use Prim.Native.Nat.{ℕ}
@@ -54,10 +54,10 @@ use Rattle.session.proofs.Session as Record
 use Rattle.session.proofs.Session.Laws as Record′
 use Rattle.session.proofs.stepping.Stepped as Result
 use Rattle.session.proofs.stepping.Stepped.Laws as Result′
-use Rattle.session.proofs.stepping.work as callee
-use Rattle.session.proofs.stepping.work.Symbol as callee-def
-use Rattle.session.proofs.stepping.work.Symbol.{name as #callee}
-use Rattle.session.proofs.stepping.work.Met as callee-thm
+use Rattle.session.proofs.stepping.step as callee
+use Rattle.session.proofs.stepping.step.Symbol as callee-def
+use Rattle.session.proofs.stepping.step.Symbol.{name as #callee}
+use Rattle.session.proofs.stepping.step.Met as callee-thm
 use Rattle.session.proofs.lent.instant.Key.{name as #me}
 use Rattle.session.proofs.lent.instant as me
 use Rattle.session.proofs.lent.instant.Statement as stated
@@ -187,4 +187,4 @@ instant-spec 𝓤 H 𝓜 𝓖 𝓡 =
     entered 𝓤 H (tripleOf 𝓤 H (𝓖 .A) me.signature (me.spec 𝓤 H (𝓖 .A) (𝓜 .mem) (𝓡 .run)))
     (tables 𝓤 H 𝓜 𝓡 code.env .C) (tables 𝓤 H 𝓜 𝓡 code.env .Λ) #me code.function (code.unfolded 𝓤 H 𝓜 𝓡)
     (meets 𝓤 H (𝓖 .A) (givenOf 𝓤 H 𝓜 𝓖) (𝓜 .mem) (𝓡 .run) (tablesOf 𝓤 H 𝓜 (tables 𝓤 H 𝓜 𝓡 code.env))
-    (cited 𝓤 H (Callee 𝓤 H (𝓖 .A) (𝓜 .mem) (𝓡 .run)) 𝓜 𝓡 code.env #callee callee-def.routine code.calls-session·stepping·work (callee-thm.met 𝓤 H 𝓜 𝓖 𝓡)))
+    (cited 𝓤 H (Callee 𝓤 H (𝓖 .A) (𝓜 .mem) (𝓡 .run)) 𝓜 𝓡 code.env #callee callee-def.routine code.calls-session·stepping·step (callee-thm.met 𝓤 H 𝓜 𝓖 𝓡)))

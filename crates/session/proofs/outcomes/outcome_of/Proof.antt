@@ -12,17 +12,16 @@ use Rattle.answers.specs.declared.Found.the-variants.{Nothing}
 use Rattle.answers.specs.Checks.{lowest}
 use Rattle.node.specs.Inputs.{inputCount}
 use Rattle.node.specs.Layout.{streamsOf, recordsOf}
-use lib.IntN.{pos}
 use Prim.Native.Nat.{_≤_}
-use Rattle.session.specs.Records.{filled, held, holdsNode}
-use Rattle.session.specs.Instants.{inputFits, valueFits}
-use Rattle.session.proofs.Answering.{holds-none, holds-one, held-short, held-sizes, answer-30, answer-31, answer-32, answer-33, answer-34, answer-none, refusal, worked-is, fits-is}
+use Rattle.session.specs.Records.{held, holdsNode}
+use Rattle.session.specs.Instants.{inputFits, workedOut, valueInside}
+use Rattle.session.proofs.Answering.{holds-none, holds-one, held-short, held-sizes, answer-30, answer-31, answer-32, answer-33, answer-34, answer-none, refusal}
 use borrow.Author.Needs.{needs}
 use Rattle.session.proofs.outcomes.outcome_of.Statement.{statement}
 use Rattle.session.proofs.outcomes.outcome_of.Tie as tie
 
 file-long : (c : tie.Start) → length (c .args .s .file) ≡ 1040
-file-long c = simp length-map at (c .good .0 .1 .1 .0 .1 .0 .1)
+file-long c = simp length-map at (c .good .0 .1 .1 .1 .1 .0 .1 .0 .1)
 
 slice-aggregate-node-held : tie.Need-slice-aggregate-node-held
 slice-aggregate-node-held c = search needs
@@ -31,7 +30,7 @@ slice-aggregate-node-held-2 : tie.Need-slice-aggregate-node-held-2
 slice-aggregate-node-held-2 c = search needs
 
 node-held-requires : tie.Need-node-held-requires
-node-held-requires c κs = file-long (c .before .before .before .before)
+node-held-requires c κs = file-long (c .before .before .before .before .before)
 
 enum-known-n : tie.Need-enum-known-n
 enum-known-n c = search needs
@@ -43,7 +42,7 @@ refused-requires : tie.Need-refused-requires
 refused-requires c κs = search needs
 
 abbrev start-of : tie.After-known-told → tie.Start
-start-of c = c .before .before .before .before .before .before .before .before
+start-of c = c .before .before .before .before .before .before .before .before .before
 
 -- the node that was found is the record's
 one : (c : tie.After-known-told) → let s = start-of c .args .s in (holdsNode s ≡ true) × (c .before .n .given .0 .0 ≡ streamsOf (held s))
@@ -89,10 +88,10 @@ bad-is c = ap (lowest _) (sym (one (told-of (c .before)) .1)) ∙ sym (c .first-
 typed : (c : tie.After-enum-told2) → let a = start-of (told-of (c .before .before .before)) .args in lowest (inputFits (held (a .s)) (now (a .inputs))) (streamsOf (held (a .s))) ≡ Nothing
 typed c = bad-is (c .before .before) ∙ c .enum-told2 .given .1
 
-outside-is : (c : tie.After-worked-out) → let a = start-of (told-of (c .before .before .before .before .before .before)) .args in lowest (valueFits (a .s) (now (a .inputs))) (streamsOf (held (a .s))) ≡ c .worked-out .result .outside
+outside-is : (c : tie.After-worked-out) → let a = start-of (told-of (c .before .before .before .before .before)) .args in lowest (valueInside (workedOut (a .s) (now (a .inputs)))) (streamsOf (held (a .s))) ≡ c .worked-out .result .outside
 outside-is c =
-    let at = c .before .before .before .before .before .before in
-    ap (lowest _) (sym (one (told-of at) .1)) ∙ sym (fits-is _ _ _) ∙ sym (c .worked-out .ensures .0)
+    let at = c .before .before .before .before .before in
+    ap (lowest _) (sym (one (told-of at) .1)) ∙ sym (c .worked-out .ensures .0)
 
 returns-2 : tie.Need-returns-2
 returns-2 c =
@@ -133,7 +132,7 @@ slice-aggregate-worked-out : tie.Need-slice-aggregate-worked-out
 slice-aggregate-worked-out c = search needs
 
 worked-out-requires : tie.Need-worked-out-requires
-worked-out-requires c κs = let at = c .before .before .before .before .before in (counts at, one (told-of at) .1, few at)
+worked-out-requires c κs = let at = c .before .before .before .before in (counts at, one (told-of at) .1, few at)
 
 enum-known-outside : tie.Need-enum-known-outside
 enum-known-outside c = search needs
@@ -144,7 +143,7 @@ refused-requires-5 c κs = search needs
 returns-5 : tie.Need-returns-5
 returns-5 c =
     let worked = c .before .before .before .before in
-    let told = worked .before .before .before in
+    let told = worked .before .before in
     let at = told .before .before .before in
     refusal _ _ _ _ (c .refused5 .ensures)
     (answer-34 _ _ _ (one (told-of at) .0) (counted (at .before)) (sized at) (typed told) (outside-is worked ∙ c .before .before .outside .given .1))
@@ -155,11 +154,11 @@ enum-told-3 c = search needs
 returns-6 : tie.Need-returns-6
 returns-6 c =
     let worked = c .before .before .before in
-    let told = worked .before .before .before in
+    let told = worked .before .before in
     let at = told .before .before .before in
     let none = c .before .enum-told3 .given .1 in (
       answer-none _ _ _ (one (told-of at) .0) (counted (at .before)) (sized at) (typed told) (outside-is worked ∙ none),
-      λ e. worked .worked-out .ensures .1 none ∙ ap (filled 64 (pos 0)) (worked-is _ _),
+      λ e. worked .worked-out .ensures .1 none,
     )
 
 pub outcome-of-spec : {M : Type 1} → statement M

@@ -14,7 +14,8 @@ use Rattle.answers.specs.Checks.{lowest, orAt}
 use Rattle.node.specs.Inputs.{inputsBelow}
 use Rattle.node.specs.Layout.{streamsOf}
 use Rattle.node.proofs.InputCounts.{inputs-le, inputs-more}
-use Rattle.session.specs.Working.{isValue, numberIn, instantOf, valueInside}
+use Rattle.session.specs.Instants.{instantOf, valueInside}
+use Rattle.session.specs.Working.{isValue, numberIn}
 use Rattle.session.proofs.WorkingOut.{Holds, holds-start, holds-end, turn-found, turn-holds}
 use borrow.Author.Needs.{needs}
 use Rattle.session.proofs.values.worked_out.Statement.{statement}
