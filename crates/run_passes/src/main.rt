@@ -112,13 +112,19 @@ fn run(begun: Session, calls: &[u8]) -> Session
     s
 }
 
+// A session begun on a node, and then all calls of a pass.
+fn run_pass(node: &[u8], calls: &[u8]) -> Session
+    ensures { λ r. ⌜ r ≡ afterAll (begunOf (now (node .entry)) zeroed) (callsOf (now (calls .entry))) ⌝ }
+{
+    run(begun_on(node), calls)
+}
+
 fn run_files(node_path: &[u8], pass_path: &[u8]) {
     let mut node = io::large_buffer();
     let mut calls = io::large_buffer();
     let n = read_file(node_path, &mut node);
     let m = read_file(pass_path, &mut calls);
-    let s = begun_on(&node[..n]);
-    run(s, &calls[..m]);
+    run_pass(&node[..n], &calls[..m]);
 }
 
 // The pair that two arguments name.
