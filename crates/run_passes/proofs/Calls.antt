@@ -3,17 +3,19 @@
 use mathlib.Core.Path.{_≡_, refl, sym, _∙_, ap}
 use mathlib.Core.Bool.{Bool, true, false, cond}
 use mathlib.Core.List.{List, [], _∷_}
-use Prim.Native.Nat.{ℕ, zero, suc, _+_, _*_, _<_, _≤_}
+use Prim.Native.Nat.{ℕ, zero, suc, _+_, _-_, _*_, _<_, _≤_}
 use native.Mathlib.Nat.{le-of-suc-le-suc, not-suc-le-zero}
 use native.Mathlib.Omega.{arith}
 use borrow.Author.Tests.{lt-ltb, le-ltb, ltb-true, ltb-false}
 use lib.Dec.{ltb}
 use lib.IntN.{ℤ, pos}
-use lib.ListN.{length, getD, take}
-use lib.Seq.{ext-getD}
+use lib.ListN.{length, getD, take, drop, length-drop}
+use lib.Seq.{ext-getD, take-length}
 use Rattle.answers.proofs.FromTheFront.{below}
 use Rattle.fields.specs.Fields.{u16At, i64At}
-use Rattle.run_passes.specs.Pass.{sizeOf, firstSize, countAt, inputAt, inputsFrom}
+use Rattle.session.specs.Lists.{Call, after, afterAll}
+use Rattle.session.specs.declared.Session.{Session}
+use Rattle.run_passes.specs.Pass.{sizeOf, firstSize, countAt, inputAt, inputsFrom, callOf, callsWithin, callsOf}
 
 module _ (calls : List ℕ) where
   pub size-none : length calls < 4 → 0 ≡ firstSize calls
@@ -106,3 +108,64 @@ module _ (call : List ℕ) where
 
   pub inputs-counted : (n : ℕ) (l : List ℤ) → l ≡ inputsFrom call 0 65 → n ≡ countAt call 0 → take n l ≡ inputsFrom call 0 (countAt call 0)
   inputs-counted n l e f = rw (e, f) (inputs-taken (countAt call 0) 65 0 (count-most call 0))
+
+module _ (calls : List ℕ) where
+  none-within : (turns : ℕ) → firstSize calls ≤ 0 → callsWithin turns calls ≡ []
+  unfolding callsWithin
+  none-within zero h = refl
+  none-within (suc turns) h = rw (le-ltb 0 (firstSize calls) h)
+
+  one-within : (turns : ℕ) → 0 < firstSize calls
+      → callsWithin (suc turns) calls ≡ callOf (take (firstSize calls) calls) ∷ callsWithin turns (drop (firstSize calls) calls)
+  unfolding callsWithin
+  one-within turns h = rw (lt-ltb 0 (firstSize calls) h)
+
+  one-more : (t u : ℕ) (b : Bool) → ltb 0 (firstSize calls) ≡ b
+      → (0 < firstSize calls → callsWithin t (drop (firstSize calls) calls) ≡ callsWithin u (drop (firstSize calls) calls))
+      → callsWithin (suc t) calls ≡ callsWithin (suc u) calls
+  one-more t u true e rest =
+      let some = ltb-true 0 (firstSize calls) e in
+      one-within t some ∙ ap (λ (l : List Call). callOf (take (firstSize calls) calls) ∷ l) (rest some) ∙ sym (one-within u some)
+  one-more t u false e rest =
+      let none = ltb-false 0 (firstSize calls) e in
+      none-within (suc t) none ∙ sym (none-within (suc u) none)
+
+-- more turns than bytes find no more calls
+enough : (t u : ℕ) (calls : List ℕ) → length calls ≤ t → length calls ≤ u → callsWithin t calls ≡ callsWithin u calls
+enough zero u calls h k =
+    let none : firstSize calls ≤ 0 = omega (arith, size-within calls) in
+    none-within calls zero none ∙ sym (none-within calls u none)
+enough (suc t) zero calls h k =
+    let none : firstSize calls ≤ 0 = omega (arith, size-within calls) in
+    none-within calls (suc t) none ∙ sym (none-within calls zero none)
+enough (suc t) (suc u) calls h k =
+    one-more calls t u (ltb 0 (firstSize calls)) refl
+    (λ some. enough t u (drop (firstSize calls) calls) (rw length-drop (omega arith)) (rw length-drop (omega arith)))
+
+module _ (calls : List ℕ) where
+  pub no-call : firstSize calls ≤ 0 → callsOf calls ≡ []
+  unfolding callsOf
+  no-call h = none-within calls (length calls) h
+
+  -- the first call, then those of the bytes after it
+  pub one-call : 0 < firstSize calls → callsOf calls ≡ callOf (take (firstSize calls) calls) ∷ callsOf (drop (firstSize calls) calls)
+  unfolding callsOf
+  one-call h =
+      enough (length calls) (suc (length calls)) calls (omega arith) (omega arith)
+      ∙ one-within calls (length calls) h
+      ∙ ap (λ (l : List Call). callOf (take (firstSize calls) calls) ∷ l) (enough (length calls) (length (drop (firstSize calls) calls)) (drop (firstSize calls) calls) (rw length-drop (omega arith)) (omega arith))
+
+whole-rest : (left : List ℕ) (size : ℕ) → take (length left - size) (drop size left) ≡ drop size left
+whole-rest left size = rw (← length-drop size left) (take-length (drop size left))
+
+module _ (s : Session) (left : List ℕ) (size : ℕ) (is : size ≡ firstSize left) where
+  -- a call made leaves those after it
+  pub one-made : (next : Session) → 0 < size → next ≡ after s (callOf (take size left))
+      → afterAll next (callsOf (take (length left - size) (drop size left))) ≡ afterAll s (callsOf left)
+  unfolding afterAll
+  one-made next some made =
+      rw (whole-rest left size, made, is) (sym (ap (afterAll s) (one-call left (rw is at some))))
+
+  pub all-made : size ≤ 0 → s ≡ afterAll s (callsOf left)
+  unfolding afterAll
+  all-made none = sym (ap (afterAll s) (no-call left (rw is at none)))

@@ -5,7 +5,7 @@ use mathlib.Core.Bool.{cond}
 use mathlib.Core.List.{List, [], _∷_}
 use lib.Dec.{ltb}
 use lib.IntN.{ℤ, pos}
-use lib.ListN.{length, replicate}
+use lib.ListN.{length, take, drop, replicate}
 use Rattle.fields.specs.Fields.{u16At, i64At}
 use Rattle.session.specs.Lists.{Call}
 
@@ -37,3 +37,15 @@ inputsFrom call i (suc n) = inputAt call i ∷ inputsFrom call (suc i) n
 -- the call that is made: the inputs that it counts, and a slice of sevens
 abbrev pub callOf : List ℕ → Call
 callOf call = record { inputs = inputsFrom call 0 (countAt call 0); slice = replicate (countAt call 2) (pos 7) }
+
+-- the calls of a pass file in turn, found in at most so many turns
+unfoldable pub callsWithin : (turns : ℕ) → List ℕ → List Call
+callsWithin zero calls = []
+callsWithin (suc turns) calls =
+    cond (ltb 0 (firstSize calls))
+    (callOf (take (firstSize calls) calls) ∷ callsWithin turns (drop (firstSize calls) calls))
+    []
+
+-- a turn leaves fewer bytes, so that as many turns as bytes are enough; a cut-off last call is ignored
+unfoldable pub callsOf : List ℕ → List Call
+callsOf calls = callsWithin (length calls) calls

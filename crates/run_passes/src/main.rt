@@ -10,9 +10,9 @@ use session::step;
 ghost use mathlib.Core.Path.{_≡_};
 ghost use lib.ListN.{length};
 ghost use Rattle.session.specs.Instants.{sessionOf, sliceOf};
-ghost use Rattle.session.specs.Lists.{after};
+ghost use Rattle.session.specs.Lists.{after, afterAll};
 ghost use Rattle.session.specs.Records.{begunOf};
-ghost use Rattle.run_passes.specs.Pass.{callOf};
+ghost use Rattle.run_passes.specs.Pass.{callOf, callsOf};
 ghost use Rattle.run_passes.specs.Zeroed.{zeroed};
 
 mod bytes;
@@ -98,7 +98,10 @@ fn called(s: Session, call: &[u8]) -> Session
     stepped(s, &inputs[..count], &mut slice[..room])
 }
 
-fn run(begun: Session, calls: &[u8]) {
+// The session after all calls of a pass, each made in turn on the session that the one before left.
+fn run(begun: Session, calls: &[u8]) -> Session
+    ensures { λ r. ⌜ r ≡ afterAll begun (callsOf (now (calls .entry))) ⌝ }
+{
     let mut s = begun;
     let mut left = calls;
     let mut size = pass::first_size(left);
@@ -107,6 +110,14 @@ fn run(begun: Session, calls: &[u8]) {
         left = &left[size..];
         size = pass::first_size(left);
     }
+    s
+}
+
+// A session begun on a node, and then all calls of a pass.
+fn run_pass(node: &[u8], calls: &[u8]) -> Session
+    ensures { λ r. ⌜ r ≡ afterAll (begunOf (now (node .entry)) zeroed) (callsOf (now (calls .entry))) ⌝ }
+{
+    run(begun_on(node), calls)
 }
 
 fn run_files(node_path: &[u8], pass_path: &[u8]) {
@@ -114,8 +125,7 @@ fn run_files(node_path: &[u8], pass_path: &[u8]) {
     let mut calls = io::large_buffer();
     let n = read_file(node_path, &mut node);
     let m = read_file(pass_path, &mut calls);
-    let s = begun_on(&node[..n]);
-    run(s, &calls[..m]);
+    run_pass(&node[..n], &calls[..m]);
 }
 
 // The pair that two arguments name.

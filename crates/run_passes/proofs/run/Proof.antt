@@ -1,17 +1,21 @@
--- `run_passes::run` is safe and ends. The first call lies within the bytes that are left; the measure is how many they are.
+-- `run_passes::run` meets its contract. The loop's invariant: the calls that are left take the session where all take the begun one.
 -- Assumes nothing.
 use Prim.Native.Nat.{_≤_}
+use denote.Ref.{now}
 use lib.ListN.{length}
-use mathlib.Core.Path.{sym}
+use mathlib.Core.Path.{_≡_, refl, sym, ap, _∙_}
 use native.Mathlib.Omega.{arith}
 use lib.Seq.{length-take-le}
-use Rattle.run_passes.proofs.Calls.{size-within}
+use Rattle.run_passes.proofs.Calls.{size-within, one-made, all-made}
+use Rattle.run_passes.specs.Pass.{firstSize, callsOf}
+use Rattle.session.specs.Lists.{afterAll}
 use borrow.Author.Needs.{needs}
 use Rattle.run_passes.proofs.run.Statement.{statement}
 use Rattle.run_passes.proofs.run.Tie as tie
 
 abbrev Inv-loop : tie.InvT-loop
-Inv-loop calls s₀ left₀ size₀ s left size = size ≤ length left
+Inv-loop calls s₀ left₀ size₀ s left size =
+    (size ≡ firstSize left) × (size ≤ length left) × (afterAll s (callsOf left) ≡ afterAll s₀ (callsOf left₀))
 
 abbrev μ-loop : tie.MeasureT-loop
 μ-loop calls s₀ left₀ size₀ s left size = length left
@@ -20,7 +24,7 @@ first-size-requires : tie.Need-first-size-requires Inv-loop μ-loop
 first-size-requires c κs = search needs
 
 loop-holds : tie.Need-loop-holds Inv-loop μ-loop
-loop-holds c = rw (c .first-size .ensures) (size-within _)
+loop-holds c = (c .first-size .ensures, rw (c .first-size .ensures) (size-within _), refl)
 
 slice-aggregate-called : tie.Need-slice-aggregate-called Inv-loop μ-loop
 slice-aggregate-called c = sym (length-take-le _ _ (omega arith))
@@ -44,10 +48,17 @@ loop-less : tie.Need-loop-less Inv-loop μ-loop
 loop-less c = search needs
 
 loop-again : tie.Need-loop-again Inv-loop μ-loop
-loop-again c = rw (c .first-size2 .ensures) (size-within _)
+loop-again c =
+    let at = c .before .before .before .before .before .loop in (
+      c .first-size2 .ensures,
+      rw (c .first-size2 .ensures) (size-within _),
+      one-made (at .s) (now (at .left)) (at .size) (at .inv .0) _ (c .before .before .before .before .loop-test .taken) (c .before .before .called .ensures) ∙ at .inv .2,
+    )
 
 returns : tie.Need-returns Inv-loop μ-loop
-returns c = search needs
+returns c =
+    let at = c .before .loop in
+    all-made (at .s) (now (at .left)) (at .size) (at .inv .0) (c .loop-test .left) ∙ at .inv .2
 
 pub run-spec : {M : Type 1} → statement M
 run-spec =
