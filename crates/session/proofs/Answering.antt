@@ -10,10 +10,10 @@ use lib.Dec.{leb, eqb}
 use lib.IntN.{ℤ, pos}
 use lib.ListN.{length, take}
 use Rattle.answers.specs.declared.Place.{Place}
-use Rattle.answers.specs.declared.Place.the-variants.{File, Record as AtRecord}
+use Rattle.answers.specs.declared.Place.the-variants.{File}
 use Rattle.answers.specs.declared.InstantVerdict.{InstantVerdict}
 use Rattle.answers.specs.declared.InstantVerdict.the-variants.{Refused}
-use Rattle.answers.specs.declared.Found.the-variants.{At, Nothing}
+use Rattle.answers.specs.declared.Found.{Found}
 use Rattle.answers.specs.Answer.{Answer, accepted, refused, instantAnswer, NodeValues, isAccepted}
 use Rattle.answers.specs.Checks.{lowest}
 use Rattle.answers.proofs.InARow.{by-check}
@@ -30,7 +30,7 @@ use Rattle.session.specs.declared.Session.{Session}
 use Rattle.session.specs.declared.holding.Held.{Held}
 use Rattle.session.specs.declared.holding.Held.the-variants.{Streams, NoNode}
 use Rattle.session.specs.Records.{filled, held, unstarted, isNode, holdsNode}
-use Rattle.session.specs.Instants.{inputFits, instantOf, workedOut, valueInside, answerOf, movedTo, sessionOf, sliceOf}
+use Rattle.session.specs.Instants.{inputFits, instantOf, workedOut, valueInside, inOrder, answerOf, movedTo, sessionOf, sliceOf}
 use Rattle.session.specs.Working.{nodeHeld}
 use Rattle.session.proofs.Filled.{over, over-whole, start-of-filled}
 
@@ -75,36 +75,12 @@ module _ (s : Session) where
         go (accepted node) e t = accepted-sizes (held s) e
         go (refused number place) e t = absurd (false≢true t)
 
--- ---- the answer at each test
+-- ---- the answer, from what the tests gave
 
 module _ (s : Session) (inputs : List ℤ) (room : ℕ) where
-  pub answer-30 : holdsNode s ≡ false → refused 30 File ≡ answerOf s inputs room
+  pub answer-by : {node count size : Bool} {input value : Found} → holdsNode s ≡ node → eqb (length inputs) (inputCount (held s)) ≡ count → eqb room (streamsOf (held s)) ≡ size → lowest (inputFits (held s) inputs) (streamsOf (held s)) ≡ input → lowest (valueInside (workedOut s inputs)) (streamsOf (held s)) ≡ value → inOrder node count size input value ≡ answerOf s inputs room
   unfolding answerOf
-  answer-30 e = rw e
-
-  module _ (holds : holdsNode s ≡ true) where
-    pub answer-31 : eqb (length inputs) (inputCount (held s)) ≡ false → refused 31 File ≡ answerOf s inputs room
-    unfolding answerOf
-    answer-31 e = rw (holds, e)
-
-    module _ (count : eqb (length inputs) (inputCount (held s)) ≡ true) where
-      pub answer-32 : eqb room (streamsOf (held s)) ≡ false → refused 32 File ≡ answerOf s inputs room
-      unfolding answerOf
-      answer-32 e = rw (holds, count, e)
-
-      module _ (sized : eqb room (streamsOf (held s)) ≡ true) where
-        pub answer-33 : {i : ℕ} → lowest (inputFits (held s) inputs) (streamsOf (held s)) ≡ At i → refused 33 (AtRecord i) ≡ answerOf s inputs room
-        unfolding answerOf
-        answer-33 e = rw (holds, count, sized, e)
-
-        module _ (typed : lowest (inputFits (held s) inputs) (streamsOf (held s)) ≡ Nothing) where
-          pub answer-34 : {i : ℕ} → lowest (valueInside (workedOut s inputs)) (streamsOf (held s)) ≡ At i → refused 34 (AtRecord i) ≡ answerOf s inputs room
-          unfolding answerOf
-          answer-34 e = rw (holds, count, sized, typed, e)
-
-          pub answer-none : lowest (valueInside (workedOut s inputs)) (streamsOf (held s)) ≡ Nothing → accepted tt ≡ answerOf s inputs room
-          unfolding answerOf
-          answer-none e = rw (holds, count, sized, typed, e)
+  answer-by a b c d e = sym (λ i. inOrder (a i) (b i) (c i) (d i) (e i))
 
   -- the outcome of a refusal: it owes no values
   pub refusal : {answer : InstantVerdict} {number : ℕ} {place : Place} (values : List ℤ) → answer ≡ Refused number place → refused number place ≡ answerOf s inputs room → (instantAnswer answer ≡ answerOf s inputs room) × (instantAnswer answer ≡ accepted tt → values ≡ filled 64 (pos 0) (workedOut s inputs))

@@ -15,7 +15,7 @@ use Rattle.answers.specs.declared.Found.{Found}
 use Rattle.answers.specs.declared.Found.the-variants.{At, Nothing}
 use Rattle.answers.specs.declared.Place.the-variants.{File, Record as AtRecord}
 use Rattle.answers.specs.Answer.{Answer, accepted, NodeValues}
-use Rattle.answers.specs.Checks.{check, checkAll, lowest}
+use Rattle.answers.specs.Checks.{lowest}
 use Rattle.answers.proofs.InARow.{by-check, by-check-all}
 use Rattle.answers.proofs.Lowest.{all}
 use Rattle.node.specs.Equations.{kindAt, equationAt}
@@ -29,7 +29,7 @@ use Rattle.streams.specs.Values.{Values, valuesIn}
 use Rattle.node.proofs.InputCounts.{equation-input}
 use Rattle.streams.proofs.Numbers.{fits-test}
 use Rattle.session.specs.declared.Session.{Session}
-use Rattle.session.specs.Instants.{inputFits, workedOut, valueInside, answerOf}
+use Rattle.session.specs.Instants.{inputFits, workedOut, valueInside, inOrder, answerOf}
 use Rattle.session.specs.Lists.{Call, Answered, answerTo}
 use Rattle.session.specs.Records.{held}
 use Rattle.session.specs.Theorems.{Judged, inputTyped, answerGiven}
@@ -43,17 +43,12 @@ unfolding lowest
 lowest-same f g zero h = refl
 lowest-same f g (suc n) h = rw (lowest-same f g n (λ k l. h k (omega arith)), h n (lt-suc-self n))
 
--- 31 to 34 in order
-abbrev inOrder : (count room : Bool) → (input value : Found) → Answer (Unit {0})
-inOrder count room input value =
-    check count 31 File (check room 32 File (checkAll input 33 AtRecord (checkAll value 34 AtRecord (accepted tt))))
-
 -- 34 is met where 31 and 33 pass
-same-order : (count room : Bool) (input value other : Found) → (count ≡ true → input ≡ Nothing → value ≡ other) → inOrder count room input value ≡ inOrder count room input other
-same-order false room input value other h = refl
+same-order : (count size : Bool) (input value other : Found) → (count ≡ true → input ≡ Nothing → value ≡ other) → inOrder true count size input value ≡ inOrder true count size input other
+same-order false size input value other h = refl
 same-order true false input value other h = refl
 same-order true true (At i) value other h = refl
-same-order true true Nothing value other h = ap (inOrder true true Nothing) (h refl refl)
+same-order true true Nothing value other h = ap (inOrder true true true Nothing) (h refl refl)
 
 module _ (file : List ℕ) {node : NodeValues} (e : verdictOf file ≡ accepted node) (c : Call) where
   -- inputs that pass 31 and 33 are typed
@@ -86,10 +81,10 @@ module _ (file : List ℕ) {node : NodeValues} (e : verdictOf file ≡ accepted 
     answer-is : answerTo s c ≡ answerGiven file c (valuesIn (workedOut s (c .inputs)))
     unfolding answerOf inputFits
     answer-is =
-        let value = lowest (valueInside (workedOut s (c .inputs))) in
-        ap (λ (b : Bool). check b 30 File (inOrder (eqb (length (c .inputs)) (inputCount (held s))) (eqb (length (c .slice)) (streamsOf (held s))) (lowest (inputFits (held s) (c .inputs)) (streamsOf (held s))) (value (streamsOf (held s))))) (holds-node file e done s stands)
-        ∙ ap₂ (λ (n : Node) (fit : ℕ → Bool). inOrder (eqb (length (c .inputs)) (n .inputs)) (eqb (length (c .slice)) (n .streams)) (lowest fit (n .streams)) (value (n .streams)))
+        ap₂ (λ (b : Bool) (n : Node). inOrder b (eqb (length (c .inputs)) (n .inputs)) (eqb (length (c .slice)) (n .streams)) (lowest (inputFits (held s) (c .inputs)) (n .streams)) (lowest (valueInside (workedOut s (c .inputs))) (n .streams)))
+        (holds-node file e done s stands)
         (held-node file e done s stands)
+        ∙ ap (λ (fit : ℕ → Bool). inOrder true (eqb (length (c .inputs)) (inputCount file)) (eqb (length (c .slice)) (streamsOf file)) (lowest fit (streamsOf file)) (lowest (valueInside (workedOut s (c .inputs))) (streamsOf file)))
         (ap (λ (f : List ℕ). inputFits f (c .inputs)) (stands .holds) ∙ input-fits-same file e (c .inputs))
 
     -- .. which are those of the solution

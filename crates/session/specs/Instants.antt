@@ -6,6 +6,7 @@ use lib.Dec.{eqb}
 use lib.IntN.{ℤ, pos}
 use lib.ListN.{length, replicate}
 use Rattle.integers.specs.Range.{inside}
+use Rattle.answers.specs.declared.Found.{Found}
 use Rattle.answers.specs.declared.Place.the-variants.{File, Record as AtRecord}
 use Rattle.answers.specs.Answer.{Answer, accepted, ifAccepted}
 use Rattle.answers.specs.Checks.{check, checkAll, lowest}
@@ -35,15 +36,25 @@ workedOut s inputs = instantOf (held s) inputs (unstarted s) (s .last)
 abbrev pub valueInside : (values : List ℤ) → (i : ℕ) → Bool
 valueInside values i = inside (valuesIn values i)
 
--- 30 to 34 in order, for a slice of `room` values
+-- 30 to 34 in order, from what each test gives
+abbrev pub inOrder : (node count size : Bool) → (input value : Found) → Answer (Unit {0})
+inOrder node count size input value =
+    check node 30 File
+    (check count 31 File
+    (check size 32 File
+    (checkAll input 33 AtRecord
+    (checkAll value 34 AtRecord
+    (accepted tt)))))
+
+-- the answer, for a slice of `room` values
 unfoldable pub answerOf : Session → (inputs : List ℤ) → (room : ℕ) → Answer (Unit {0})
 answerOf s inputs room =
-    check (holdsNode s) 30 File
-    (check (eqb (length inputs) (inputCount (held s))) 31 File
-    (check (eqb room (streamsOf (held s))) 32 File
-    (checkAll (lowest (inputFits (held s) inputs) (streamsOf (held s))) 33 AtRecord
-    (checkAll (lowest (valueInside (workedOut s inputs)) (streamsOf (held s))) 34 AtRecord
-    (accepted tt)))))
+    inOrder
+    (holdsNode s)
+    (eqb (length inputs) (inputCount (held s)))
+    (eqb room (streamsOf (held s)))
+    (lowest (inputFits (held s) inputs) (streamsOf (held s)))
+    (lowest (valueInside (workedOut s inputs)) (streamsOf (held s)))
 
 -- the record that an answered call leaves: past instant 0, with the instant's values
 abbrev pub movedTo : Session → (values : List ℤ) → Session

@@ -1,6 +1,6 @@
 -- `session::outcome_of` meets its contract: each test in its turn is the definition's.
 -- Assumes nothing.
-use mathlib.Core.Path.{_≡_, sym, _∙_, ap}
+use mathlib.Core.Path.{_≡_, refl, sym, _∙_, ap}
 use mathlib.Core.Bool.{true}
 use native.Mathlib.Omega.{arith}
 use borrow.Author.Tests.{eq-eqb, ne-eqb}
@@ -15,7 +15,7 @@ use Rattle.node.specs.Layout.{streamsOf, recordsOf}
 use Prim.Native.Nat.{_≤_}
 use Rattle.session.specs.Records.{held, holdsNode}
 use Rattle.session.specs.Instants.{inputFits, workedOut, valueInside}
-use Rattle.session.proofs.Answering.{holds-none, holds-one, held-short, held-sizes, answer-30, answer-31, answer-32, answer-33, answer-34, answer-none, refusal}
+use Rattle.session.proofs.Answering.{holds-none, holds-one, held-short, held-sizes, answer-by, refusal}
 use borrow.Author.Needs.{needs}
 use Rattle.session.proofs.outcomes.outcome_of.Statement.{statement}
 use Rattle.session.proofs.outcomes.outcome_of.Tie as tie
@@ -54,7 +54,7 @@ told-of c = c .before .before .before .before
 returns : tie.Need-returns
 returns c =
     refusal _ _ _ _ (c .refused .ensures)
-    (answer-30 _ _ _ (holds-none _ (sym (c .before .before .before .node-held .ensures) ∙ c .before .enum-told .given .1)))
+    (answer-by _ _ _ (holds-none _ (sym (c .before .before .before .node-held .ensures) ∙ c .before .enum-told .given .1)) refl refl refl refl)
 
 array-share-prefix-file : tie.Need-array-share-prefix-file
 array-share-prefix-file c = omega (arith, file-long (start-of c), held-short _ (one c .0))
@@ -97,7 +97,7 @@ returns-2 : tie.Need-returns-2
 returns-2 c =
     let at = c .before .before in
     refusal _ _ _ _ (c .refused2 .ensures)
-    (answer-31 _ _ _ (one (at .before .before) .0) (rw (at .input-count .ensures) at (ne-eqb _ _ (c .before .if1 .taken))))
+    (answer-by _ _ _ (one (at .before .before) .0) (rw (at .input-count .ensures) at (ne-eqb _ _ (c .before .if1 .taken))) refl refl refl)
 
 refused-requires-3 : tie.Need-refused-requires-3
 refused-requires-3 c κs = search needs
@@ -107,7 +107,7 @@ returns-3 c =
     let at = c .before .before in
     let told = at .before .before .before in
     refusal _ _ _ _ (c .refused3 .ensures)
-    (answer-32 _ _ _ (one told .0) (counted at) (rw (one told .1) at (ne-eqb _ _ (c .before .if2 .taken))))
+    (answer-by _ _ _ (one told .0) (counted at) (rw (one told .1) at (ne-eqb _ _ (c .before .if2 .taken))) refl refl)
 
 first-bad-requires : tie.Need-first-bad-requires
 first-bad-requires c κs = (counts c, few c)
@@ -123,7 +123,7 @@ returns-4 c =
     let found = c .before .before .before .before in
     let at = found .before in
     refusal _ _ _ _ (c .refused4 .ensures)
-    (answer-33 _ _ _ (one (told-of at) .0) (counted (at .before)) (sized at) (bad-is found ∙ c .before .before .i .given .1))
+    (answer-by _ _ _ (one (told-of at) .0) (counted (at .before)) (sized at) (bad-is found ∙ c .before .before .i .given .1) refl)
 
 enum-told-2 : tie.Need-enum-told-2
 enum-told-2 c = search needs
@@ -146,7 +146,7 @@ returns-5 c =
     let told = worked .before .before in
     let at = told .before .before .before in
     refusal _ _ _ _ (c .refused5 .ensures)
-    (answer-34 _ _ _ (one (told-of at) .0) (counted (at .before)) (sized at) (typed told) (outside-is worked ∙ c .before .before .outside .given .1))
+    (answer-by _ _ _ (one (told-of at) .0) (counted (at .before)) (sized at) (typed told) (outside-is worked ∙ c .before .before .outside .given .1))
 
 enum-told-3 : tie.Need-enum-told-3
 enum-told-3 c = search needs
@@ -157,7 +157,7 @@ returns-6 c =
     let told = worked .before .before in
     let at = told .before .before .before in
     let none = c .before .enum-told3 .given .1 in (
-      answer-none _ _ _ (one (told-of at) .0) (counted (at .before)) (sized at) (typed told) (outside-is worked ∙ none),
+      answer-by _ _ _ (one (told-of at) .0) (counted (at .before)) (sized at) (typed told) (outside-is worked ∙ none),
       λ e. worked .worked-out .ensures .1 none,
     )
 
