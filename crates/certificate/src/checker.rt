@@ -32,11 +32,8 @@ fn parts_verdict(
     if !has_empty(cert, lines, base, step) {
         return CertificateVerdict::Refused(refusals::NO_EMPTY_LINE, Place::Step);
     }
-    CertificateVerdict::Accepted {
-        depth: t.depth as usize,
-        base,
-        step,
-    }
+    let depth = t.depth as usize;
+    CertificateVerdict::Accepted { depth, base, step }
 }
 
 // Rules 16 to 21: lines taken one at a time. One array of sums serves all, since each line that passes leaves it at zero.

@@ -69,8 +69,8 @@ returns-2 c =
     rw
     (base-is (c .before .before .before) ∙ not-false _ (c .before .before .if1 .left), step-is (c .before) ∙ not-true _ (c .if2 .taken))
 
-cast-t14 : tie.Need-cast-t14
-cast-t14 c = search needs
+cast-depth : tie.Need-cast-depth
+cast-depth c = search needs
 
 returns-3 : tie.Need-returns-3
 unfolding partsVerdict
@@ -92,5 +92,5 @@ parts-verdict-spec =
     returns
     has-empty-requires-2
     returns-2
-    cast-t14
+    cast-depth
     returns-3)
