@@ -1,9 +1,12 @@
 // The certificate checker.
+mod arithmetic;
 mod checker;
+mod content;
 mod equations;
 mod file_note;
 mod joins;
 mod lines;
+mod matching;
 mod parts;
 mod property;
 mod reading;
@@ -11,6 +14,8 @@ mod refusals;
 mod search;
 mod shape;
 mod sorts;
+mod sums;
+mod terms;
 
 pub use file_note::note;
 pub use file_note::note_length;
