@@ -1,9 +1,9 @@
 // Arithmetic lines: the opposites of their literals, times multipliers, add up to a contradiction.
+use crate::layout::line_head;
 use crate::sums::add_literals;
 use crate::sums::are_constraints;
 use crate::sums::are_zero;
 use crate::sums::bound_of;
-use constraints::line_head;
 ghost use mathlib.Core.Path.{_≡_};
 ghost use lib.IntN.{pos};
 ghost use lib.ListN.{replicate};

@@ -1,8 +1,8 @@
 // Rule 17: equation lines.
+use crate::layout::line_head;
+use crate::layout::literal_at;
 use crate::matching::matches;
 use clauses::clause_of;
-use constraints::line_head;
-use constraints::literal_at;
 use node::equation_among;
 use node::kind_among;
 use rules::Clause;

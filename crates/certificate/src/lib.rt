@@ -1,10 +1,13 @@
 // The certificate checker.
 mod arithmetic;
+mod bytes;
 mod checker;
+mod constraint_rules;
 mod content;
 mod equations;
 mod file_note;
 mod joins;
+mod layout;
 mod lines;
 mod matching;
 mod parts;

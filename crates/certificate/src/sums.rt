@@ -1,10 +1,10 @@
 // The literals of an arithmetic line one after another: all on constraints, and their sums.
+use crate::layout::literal_at;
 use crate::terms::add_terms;
 use crate::terms::are_terms_zero;
 use crate::terms::bound_at;
 use crate::terms::factor_at;
 use crate::terms::place_of;
-use constraints::literal_at;
 ghost use Prim.Native.Nat.{ℕ, _+_, _<_, _≤_};
 ghost use mathlib.Core.Path.{_≡_};
 ghost use lib.IntN.{pos};

@@ -1,8 +1,8 @@
 // One literal of an arithmetic line: its constraint, times its multiplier.
-use constraints::constraint_head;
-use constraints::literal_at;
-use constraints::multiplier_at;
-use constraints::term_at;
+use crate::layout::constraint_head;
+use crate::layout::literal_at;
+use crate::layout::multiplier_at;
+use crate::layout::term_at;
 use constraints::var;
 use literals::Literal;
 ghost use Prim.Native.Nat.{ℕ, _+_, _<_, _≤_};

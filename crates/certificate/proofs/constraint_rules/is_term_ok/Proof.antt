@@ -1,12 +1,12 @@
--- `constraints::is_term_ok` meets its contract: the tests that led to each way out say which case of `termOk` holds.
+-- `certificate::is_term_ok` meets its contract: the tests that led to each way out say which case of `termOk` holds.
 -- Assumes nothing.
 use mathlib.Core.Path.{sym, _∙_, ap, ap₂}
 use mathlib.Core.Bool.{_&&_, and-true}
 use borrow.Author.Tests.{le-leb, lt-leb, eq-eqb, ne-eqb}
 use Rattle.constraints.specs.Rules.{usedOk, unusedOk, rises, termOk}
 use borrow.Author.Needs.{needs}
-use Rattle.constraints.proofs.rules.is_term_ok.Statement.{statement}
-use Rattle.constraints.proofs.rules.is_term_ok.Tie as tie
+use Rattle.certificate.proofs.constraint_rules.is_term_ok.Statement.{statement}
+use Rattle.certificate.proofs.constraint_rules.is_term_ok.Tie as tie
 
 term-at-requires : tie.Need-term-at-requires
 term-at-requires c κs = search needs

@@ -1,11 +1,11 @@
--- `constraints::is_unused_ok` meets its contract: the comparisons in a row.
+-- `certificate::is_unused_ok` meets its contract: the comparisons in a row.
 -- Assumes nothing.
 use mir.Syntax.{w64}
 use mir.ValLaws.{toZ-ofZ}
 use Rattle.constraints.specs.Rules.{unusedOk}
 use borrow.Author.Needs.{needs}
-use Rattle.constraints.proofs.rules.is_unused_ok.Statement.{statement}
-use Rattle.constraints.proofs.rules.is_unused_ok.Tie as tie
+use Rattle.certificate.proofs.constraint_rules.is_unused_ok.Statement.{statement}
+use Rattle.certificate.proofs.constraint_rules.is_unused_ok.Tie as tie
 
 between-requires : tie.Need-between-requires
 between-requires c κs = search needs

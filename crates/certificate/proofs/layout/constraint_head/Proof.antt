@@ -1,10 +1,10 @@
--- `constraints::constraint_head` meets its contract: the fields in a row, the bound as it was read.
+-- `certificate::constraint_head` meets its contract: the fields in a row, the bound as it was read.
 -- Assumes nothing.
 use mir.Syntax.{w64}
 use mir.ValLaws.{toZ-ofZ}
 use borrow.Author.Needs.{needs}
-use Rattle.constraints.proofs.layout.constraint_head.Statement.{statement}
-use Rattle.constraints.proofs.layout.constraint_head.Tie as tie
+use Rattle.certificate.proofs.layout.constraint_head.Statement.{statement}
+use Rattle.certificate.proofs.layout.constraint_head.Tie as tie
 
 shared-slice-read-t4 : tie.Need-shared-slice-read-t4
 shared-slice-read-t4 c = search needs

@@ -1,4 +1,4 @@
--- `constraints::first_bad` meets its contract. The loop's invariant: each constraint passed keeps its rules.
+-- `certificate::first_bad` meets its contract. The loop's invariant: each constraint passed keeps its rules.
 -- Assumes nothing.
 use mathlib.Core.Path.{_≡_, sym, _∙_}
 use mathlib.Core.Bool.{true}
@@ -8,9 +8,9 @@ use borrow.Author.Count.{below-none, below-more}
 use borrow.Author.Needs.{needs}
 use borrow.Author.Tests.{not-true, not-false}
 use Rattle.answers.proofs.Lowest.{none, found}
 use Rattle.constraints.specs.Rules.{sortsOf, constraintPasses}
-use Rattle.constraints.proofs.search.first_bad.Statement.{statement}
-use Rattle.constraints.proofs.search.first_bad.Tie as tie
+use Rattle.certificate.proofs.constraint_rules.first_bad.Statement.{statement}
+use Rattle.certificate.proofs.constraint_rules.first_bad.Tie as tie
 
 abbrev Inv-loop : tie.InvT-loop
 Inv-loop file start m sorts k i₀ i =

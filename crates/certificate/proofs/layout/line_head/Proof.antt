@@ -1,8 +1,8 @@
--- `constraints::line_head` meets its contract: the fields in a row.
+-- `certificate::line_head` meets its contract: the fields in a row.
 -- Assumes nothing.
 use borrow.Author.Needs.{needs}
-use Rattle.constraints.proofs.layout.line_head.Statement.{statement}
-use Rattle.constraints.proofs.layout.line_head.Tie as tie
+use Rattle.certificate.proofs.layout.line_head.Statement.{statement}
+use Rattle.certificate.proofs.layout.line_head.Tie as tie
 
 shared-slice-read-t4 : tie.Need-shared-slice-read-t4
 shared-slice-read-t4 c = search needs

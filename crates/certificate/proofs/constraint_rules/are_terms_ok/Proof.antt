@@ -1,4 +1,4 @@
--- `constraints::are_terms_ok` meets its contract. The loop's invariant: each term passed keeps the rule.
+-- `certificate::are_terms_ok` meets its contract. The loop's invariant: each term passed keeps the rule.
 -- Assumes nothing.
 use mathlib.Core.Path.{_≡_, sym, _∙_}
 use mathlib.Core.Bool.{true}
@@ -8,10 +8,10 @@ use borrow.Author.Needs.{needs}
 use borrow.Author.Tests.{not-true, not-false}
 use Rattle.answers.specs.Checks.{every}
 use Rattle.answers.proofs.Every.{every-none, every-more, every-not}
 use Rattle.constraints.specs.Layout.{termAt}
 use Rattle.constraints.specs.Rules.{sortsOf, termOk}
-use Rattle.constraints.proofs.rules.are_terms_ok.Statement.{statement}
-use Rattle.constraints.proofs.rules.are_terms_ok.Tie as tie
+use Rattle.certificate.proofs.constraint_rules.are_terms_ok.Statement.{statement}
+use Rattle.certificate.proofs.constraint_rules.are_terms_ok.Tie as tie
 
 abbrev Inv-loop : tie.InvT-loop
 Inv-loop file at sorts k count j₀ j = (j ≤ 8) × (every (termOk (sortsOf sorts) k count (termAt file at)) j ≡ true)

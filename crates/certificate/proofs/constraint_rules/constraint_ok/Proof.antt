@@ -1,11 +1,11 @@
--- `constraints::constraint_ok` meets its contract: the tests in a row, of the fields that were read.
+-- `certificate::constraint_ok` meets its contract: the tests in a row, of the fields that were read.
 -- Assumes nothing.
 use mir.Syntax.{w64}
 use mir.ValLaws.{toZ-ofZ}
 use Rattle.constraints.specs.Rules.{constraintOk}
 use borrow.Author.Needs.{needs}
-use Rattle.constraints.proofs.rules.constraint_ok.Statement.{statement}
-use Rattle.constraints.proofs.rules.constraint_ok.Tie as tie
+use Rattle.certificate.proofs.constraint_rules.constraint_ok.Statement.{statement}
+use Rattle.certificate.proofs.constraint_rules.constraint_ok.Tie as tie
 
 constraint-head-requires : tie.Need-constraint-head-requires
 constraint-head-requires c κs = search needs

@@ -1,11 +1,11 @@
--- `constraints::is_used_ok` meets its contract: the tests in a row.
+-- `certificate::is_used_ok` meets its contract: the tests in a row.
 -- Assumes nothing.
 use mir.Syntax.{w64}
 use mir.ValLaws.{toZ-ofZ}
 use Rattle.constraints.specs.Rules.{usedOk}
 use borrow.Author.Needs.{needs}
-use Rattle.constraints.proofs.rules.is_used_ok.Statement.{statement}
-use Rattle.constraints.proofs.rules.is_used_ok.Tie as tie
+use Rattle.certificate.proofs.constraint_rules.is_used_ok.Statement.{statement}
+use Rattle.certificate.proofs.constraint_rules.is_used_ok.Tie as tie
 
 cast-sort-at : tie.Need-cast-sort-at
 cast-sort-at c = search needs

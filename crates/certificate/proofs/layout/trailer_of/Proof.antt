@@ -1,8 +1,8 @@
--- `constraints::trailer_of` meets its contract: the fields in a row.
+-- `certificate::trailer_of` meets its contract: the fields in a row.
 -- Assumes nothing.
 use borrow.Author.Needs.{needs}
-use Rattle.constraints.proofs.layout.trailer_of.Statement.{statement}
-use Rattle.constraints.proofs.layout.trailer_of.Tie as tie
+use Rattle.certificate.proofs.layout.trailer_of.Statement.{statement}
+use Rattle.certificate.proofs.layout.trailer_of.Tie as tie
 
 sub-at : tie.Need-sub-at
 sub-at c = search needs

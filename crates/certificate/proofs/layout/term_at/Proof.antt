@@ -1,4 +1,4 @@
--- `constraints::term_at` meets its contract: the fields in a row, the coefficient as it was read and widened.
+-- `certificate::term_at` meets its contract: the fields in a row, the coefficient as it was read and widened.
 -- Assumes nothing.
 use mathlib.Core.Path.{_≡_}
 use mir.Syntax.{w32, w64}
@@ -6,8 +6,8 @@ use mir.Val.{SFits, toZ, ofZ}
 use mir.Facts.{sfits-widen}
 use mir.ValLaws.{toZ-ofZ}
 use borrow.Author.Needs.{needs}
-use Rattle.constraints.proofs.layout.term_at.Statement.{statement}
-use Rattle.constraints.proofs.layout.term_at.Tie as tie
+use Rattle.certificate.proofs.layout.term_at.Statement.{statement}
+use Rattle.certificate.proofs.layout.term_at.Tie as tie
 
 add-term : tie.Need-add-term
 add-term c = search needs
