@@ -17,10 +17,10 @@ use Rattle.rules.proofs.ConstraintLimits.{Few, limited}
 use Rattle.rules.proofs.CertificateFacts.{few-streams}
 use Rattle.rules.proofs.LineParts.{part-base, part-step}
 use Rattle.rules.proofs.ShapeFacts.{ShapeFacts, shape-facts}
-use Rattle.clauses.specs.Matching.{Readable}
-use Rattle.arithmetic.specs.Checkable.{Checkable}
-use Rattle.arithmetic.specs.Sums.{constraintsFrom}
-use Rattle.arithmetic.proofs.Rules.{checkable}
+use Rattle.certificate.specs.Content.{Readable}
+use Rattle.certificate.specs.Checkable.{Checkable}
+use Rattle.certificate.specs.Sums.{constraintsFrom}
+use Rattle.certificate.proofs.Checkables.{checkable}
 use Rattle.certificate.specs.Checking.{Checking, linesStart}
 use Rattle.certificate.specs.Constants.{ConstantsLimited}
 use Rattle.certificate.specs.Ready.{linesAt, LinesReady}

@@ -13,7 +13,7 @@ use Rattle.constraints.specs.declared.layout.LineHead.{LineHead}
 use Rattle.constraints.specs.Layout.{Line}
 use Rattle.constraints.specs.Rules.{Sorts}
 use Rattle.rules.specs.Lines.{slotOk, numbersOk, shapeOk}
-use Rattle.arithmetic.proofs.Named.{every-of, same-test}
+use Rattle.certificate.proofs.Named.{every-of, same-test}
 use Rattle.certificate.specs.Slots.{listedOk, unusedOk}
 
 module _ (sorts : Sorts) (k m kind count : ℕ) (literal multiplier : ℕ → ℕ) where

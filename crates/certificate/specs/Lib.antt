@@ -1,4 +1,7 @@
+pub mod Checkable
 pub mod Checking
 pub mod Constants
+pub mod Content
 pub mod Ready
 pub mod Slots
+pub mod Sums

@@ -1,8 +1,8 @@
 // Rule 17: equation lines.
+use crate::layout::line_head;
+use crate::layout::literal_at;
+use crate::matching::matches;
 use clauses::clause_of;
-use clauses::matches;
-use constraints::line_head;
-use constraints::literal_at;
 use node::equation_among;
 use node::kind_among;
 use rules::Clause;
@@ -15,8 +15,9 @@ ghost use Rattle.node.specs.Equations.{kindAt, equationAt};
 ghost use Rattle.node.specs.Layout.{recordsOf};
 ghost use Rattle.constraints.specs.Layout.{lineAt};
 ghost use Rattle.rules.specs.Lines.{clauseIs, placeOf, equationIn};
-ghost use Rattle.clauses.specs.Matching.{Readable, SmallPattern};
-ghost use Rattle.arithmetic.specs.Sums.{constraintsFrom};
+ghost use Rattle.clauses.specs.Limits.{SmallPattern};
+ghost use Rattle.certificate.specs.Content.{Readable};
+ghost use Rattle.certificate.specs.Sums.{constraintsFrom};
 ghost use Rattle.certificate.specs.Constants.{ConstantsLimited};
 
 // The literals of the line at an offset are those of a clause, in its order.

@@ -1,8 +1,8 @@
 // The certificate's note, handed back as the leading part of the caller's slice.
+use crate::layout::trailer_of;
 use constraints::counts_ok;
 use constraints::distance_ok;
 use constraints::fixed_ok;
-use constraints::trailer_of;
 ghost use mathlib.Core.Path.{_≡_};
 ghost use lib.ListN.{take};
 ghost use Rattle.node.specs.Rules.{lengthOk};

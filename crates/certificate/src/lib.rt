@@ -1,9 +1,15 @@
 // The certificate checker.
+mod arithmetic;
+mod bytes;
 mod checker;
+mod constraint_rules;
+mod content;
 mod equations;
 mod file_note;
 mod joins;
+mod layout;
 mod lines;
+mod matching;
 mod parts;
 mod property;
 mod reading;
@@ -11,6 +17,8 @@ mod refusals;
 mod search;
 mod shape;
 mod sorts;
+mod sums;
+mod terms;
 
 pub use file_note::note;
 pub use file_note::note_length;

@@ -1,13 +1,13 @@
 // The rules of one line, 16 before its kind's.
+use crate::arithmetic::arithmetic_ok;
 use crate::equations::equation_ok;
 use crate::joins::join_ok;
+use crate::layout::line_head;
 use crate::property::base_property_ok;
 use crate::property::step_property_ok;
 use crate::refusals;
 use crate::shape::shape_ok;
-use arithmetic::arithmetic_ok;
 use constraints::Trailer;
-use constraints::line_head;
 use rules::Place;
 ghost use Prim.Native.Nat.{ℕ, _+_, _*_, _<_, _≤_};
 ghost use mathlib.Core.Path.{_≡_};

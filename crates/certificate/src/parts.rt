@@ -1,5 +1,5 @@
 // Rule 21: each part has some line without literals.
-use constraints::line_head;
+use crate::layout::line_head;
 ghost use Prim.Native.Nat.{_+_, _*_, _≤_};
 ghost use mathlib.Core.Path.{_≡_};
 ghost use mathlib.Core.Bool.{not};

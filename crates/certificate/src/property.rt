@@ -1,6 +1,6 @@
 // Rule 18: property lines.
-use constraints::line_head;
-use constraints::literal_at;
+use crate::layout::line_head;
+use crate::layout::literal_at;
 use constraints::var;
 use literals::Literal;
 ghost use Prim.Native.Nat.{_+_, _<_, _≤_};

@@ -1,6 +1,8 @@
 // The verdict on a node file and a certificate: all rules in the paper's order, the first failure given.
 use crate::checker::lines_verdict;
+use crate::constraint_rules::first_bad;
 use crate::file_note::length_ok;
+use crate::layout::trailer_of;
 use crate::lines::start_of;
 use crate::refusals;
 use crate::sorts::sorts_of;
@@ -11,9 +13,7 @@ use answers::Place;
 use constraints::Trailer;
 use constraints::counts_ok;
 use constraints::distance_ok;
-use constraints::first_bad;
 use constraints::fixed_ok;
-use constraints::trailer_of;
 ghost use Prim.Native.Nat.{ℕ};
 ghost use mathlib.Core.Path.{_≡_};
 ghost use Rattle.answers.specs.Answer.{certificateAnswer};

@@ -1,8 +1,8 @@
 // Rule 16: the shape of a line.
+use crate::layout::line_head;
+use crate::layout::literal_at;
+use crate::layout::multiplier_at;
 use constraints::LineHead;
-use constraints::line_head;
-use constraints::literal_at;
-use constraints::multiplier_at;
 use constraints::sort_at;
 ghost use Prim.Native.Nat.{_+_, _<_, _≤_};
 ghost use mathlib.Core.Path.{_≡_};

@@ -22,9 +22,8 @@ use Rattle.rules.specs.declared.pattern.Place.{Place}
 use Rattle.rules.specs.declared.pattern.Place.the-variants.{Opening, Unsure, Inner}
 use Rattle.rules.specs.Clauses.{most, less, clause1, clause2, clause3, equalTo, sameAs, guarded, firstThen, clauses, numbered}
 use Rattle.rules.proofs.ClauseForms.{all-map}
-use Rattle.clauses.specs.Matching.{SmallPattern}
 use Rattle.clauses.specs.Operators.{Has}
-use Rattle.clauses.specs.Limits.{SmallClause, AllSmall}
+use Rattle.clauses.specs.Limits.{SmallPattern, SmallClause, AllSmall}
 use Rattle.clauses.proofs.Numbering.{number-has}
 
 small1 : (p : Pattern) → SmallPattern p → SmallClause (clause1 p)

@@ -1,4 +1,2 @@
-pub mod Content
 pub mod Limits
-pub mod Matching
 pub mod Operators

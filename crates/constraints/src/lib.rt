@@ -1,24 +1,14 @@
-// Certificate files: where their fields stand, rules 12 to 15, and constraints as linear forms.
-mod bytes;
+// Certificate files: their fields, the rules of the trailer, and constraints as linear forms.
 mod layout;
 mod rules;
-mod search;
 mod variables;
 
 pub use layout::ConstraintHead;
 pub use layout::LineHead;
 pub use layout::Term;
 pub use layout::Trailer;
-pub use layout::constraint_head;
-pub use layout::line_head;
-pub use layout::literal_at;
-pub use layout::multiplier_at;
-pub use layout::term_at;
-pub use layout::trailer_of;
-pub use rules::constraint_ok;
 pub use rules::counts_ok;
 pub use rules::distance_ok;
 pub use rules::fixed_ok;
 pub use rules::sort_at;
-pub use search::first_bad;
 pub use variables::var;

@@ -20,7 +20,7 @@ use Rattle.rules.specs.Clauses.{clauses, numbered}
 use Rattle.rules.specs.Lines.{placeOf, literalsAre, equationIn}
 use Rattle.clauses.specs.Limits.{SmallClause}
 use Rattle.clauses.proofs.Limits.{small-clauses, small-named}
-use Rattle.arithmetic.specs.Sums.{constraintsFrom}
+use Rattle.certificate.specs.Sums.{constraintsFrom}
 use borrow.Author.Needs.{needs}
 use Rattle.certificate.proofs.equations.equation_ok.Statement.{statement}
 use Rattle.certificate.proofs.equations.equation_ok.Tie as tie

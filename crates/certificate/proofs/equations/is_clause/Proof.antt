@@ -12,7 +12,7 @@ use Rattle.constraints.specs.Layout.{lineHeadAt, literalAt}
 use Rattle.rules.specs.declared.pattern.Pattern.{Pattern}
 use Rattle.rules.specs.Lines.{clauseIs}
 use Rattle.rules.specs.Matching.{matchesOf}
-use Rattle.arithmetic.specs.Sums.{constraintsFrom}
+use Rattle.certificate.specs.Sums.{constraintsFrom}
 use borrow.Author.Needs.{needs}
 use Rattle.certificate.proofs.equations.is_clause.Statement.{statement}
 use Rattle.certificate.proofs.equations.is_clause.Tie as tie

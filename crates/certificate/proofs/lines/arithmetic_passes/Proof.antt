@@ -5,7 +5,7 @@ use Prim.Native.Nat.{_+_, _<_}
 use denote.Ref.{now}
 use Rattle.constraints.specs.Layout.{trailerOf, constraintOf}
 use Rattle.rules.specs.Arithmetic.{arithmeticOk}
-use Rattle.arithmetic.proofs.Deciding.{passed-clear}
+use Rattle.certificate.proofs.Deciding.{passed-clear}
 use Rattle.certificate.proofs.LineFacts.{line-checkable}
 use Rattle.certificate.proofs.Settings.{line-is}
 use borrow.Author.Needs.{needs}

@@ -13,7 +13,7 @@ use borrow.Fn.PlainCycle.{Measures, is, falls, and}
 use Rattle.certificate.proofs.search.stands_from.Reads as stands-from
 use Rattle.certificate.proofs.search.stands_from.Kinds as stands-from-kinds
 use Rattle.certificate.proofs.search.+stands_from.Lts-stands_from as stands-from-lts
-use Rattle.constraints.proofs.literal_at.Reads as literal-at-reads
+use Rattle.certificate.proofs.layout.literal_at.Reads as literal-at-reads
 use Rattle.certificate.proofs.search.+stands_from.{statement}
 use Rattle.certificate.proofs.search.+stands_from.Tie.{close}
 

@@ -1,2 +1,0 @@
-pub mod Checkable
-pub mod Sums

@@ -1,0 +1,37 @@
+-- What rules 11 to 16 give a line of kind 4: it may be checked.
+-- Assumes nothing.
+use mathlib.Core.Path.{_≡_}
+use mathlib.Core.List.{List}
+use mathlib.Core.Bool.{true}
+use Prim.Native.Nat.{ℕ, _+_, _≤_, _<_}
+use native.Mathlib.Omega.{arith}
+use lib.ListN.{length}
+use Rattle.constraints.specs.Layout.{trailerOf, startOf, constraintOf, lineHeadAt, literalAt, multiplierAt}
+use Rattle.constraints.specs.Ready.{Ready}
+use Rattle.constraints.specs.Rules.{Sorts}
+use Rattle.literals.specs.Literals.{atomOf, constraintNumber}
+use Rattle.rules.specs.Literals.{namesAtom}
+use Rattle.rules.proofs.ConstraintLimits.{Few, limited, names-constraint}
+use Rattle.certificate.specs.Checkable.{Checkable}
+
+-- a line within a file that passes rules 11 to 15, whose counts, multipliers and literals pass rule 16
+pub checkable : (sorts : Sorts) → Few sorts → (s : List ℕ) → Ready sorts s → (at : ℕ) → at + 80 ≤ length s
+    → lineHeadAt s at .count ≤ 12
+    → ((j : ℕ) → j < lineHeadAt s at .count → multiplierAt s at j ≤ 1000000)
+    → ((j : ℕ) → j < lineHeadAt s at .count → namesAtom sorts (trailerOf s .depth) (trailerOf s .constraints) (atomOf (literalAt s at j)) ≡ true)
+    → Checkable s (startOf s) at
+checkable sorts few s ready at room count multipliers literals =
+    record {
+      room = room;
+      few = count;
+      multipliers = multipliers;
+      constraints =
+          λ j l on.
+          let i = constraintNumber (atomOf (literalAt s at j)) in
+          let below : i < trailerOf s .constraints =
+          names-constraint sorts (trailerOf s .depth) (trailerOf s .constraints) (atomOf (literalAt s at j)) (literals j l) on in
+          record {
+            room = omega (arith, ready .room, below);
+            limited = limited sorts few (trailerOf s .depth) (ready .deep) (constraintOf s i) (ready .constraints i below);
+          };
+    }

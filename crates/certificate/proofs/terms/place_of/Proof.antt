@@ -1,0 +1,32 @@
+-- `certificate::place_of` meets its contract: the literal is on a constraint, which stands within the file.
+-- Assumes nothing.
+use mathlib.Core.Path.{_∙_, ap}
+use borrow.Author.Needs.{needs}
+use borrow.Author.Tests.{leb-true}
+use Rattle.literals.specs.Literals.{atomOf}
+use Rattle.certificate.proofs.terms.place_of.Statement.{statement}
+use Rattle.certificate.proofs.terms.place_of.Tie as tie
+
+literal-at-requires : tie.Need-literal-at-requires
+literal-at-requires c κs = search needs
+
+atom-requires : tie.Need-atom-requires
+atom-requires c κs = search needs
+
+sub-result : tie.Need-sub-result
+sub-result c =
+    rw (c .atom .ensures ∙ ap atomOf (c .before .literal-at .ensures))
+    (leb-true 576 _ (c .before .before .before .pre .constraint))
+
+mul-result : tie.Need-mul-result
+mul-result c = search needs
+
+add-result : tie.Need-add-result
+add-result c = search needs
+
+returns : tie.Need-returns
+returns c = search needs
+
+pub place-of-spec : {M : Type 1} → statement M
+place-of-spec =
+    tie.close (tie.spec literal-at-requires atom-requires sub-result mul-result add-result returns)
