@@ -1,4 +1,4 @@
-// Where the fields of a certificate file stand. No other file knows an offset.
+// Where the fields of a certificate file stand. No other file reads a byte.
 use fields::i32_at;
 use fields::i64_at;
 use fields::u16_at;

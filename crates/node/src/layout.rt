@@ -1,4 +1,4 @@
-// Where the fields of a node file stand. No other file knows an offset.
+// Where the fields of a node file stand. No other file reads a byte.
 use fields::i32_at;
 use fields::u16_at;
 use fields::u32_at;

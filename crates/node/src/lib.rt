@@ -1,5 +1,5 @@
-// The node reader. A node file is a note, n records and a trailer; record i defines stream i. Everything here is total:
-// whatever bytes the file holds, a call answers by the definition that its contract cites.
+// The node reader. A node file is a note, n records and a trailer; record i defines stream i. Every published call is
+// total: whatever bytes the file holds, it answers by the definition that its contract cites.
 mod equation;
 mod file_note;
 mod inputs;
@@ -12,14 +12,10 @@ mod table;
 pub use equation::Equation;
 pub use equation::Kind;
 pub use equation::equation_among;
-pub use equation::equation_of;
 pub use equation::kind_among;
-pub use equation::kind_of;
 pub use file_note::note;
 pub use file_note::note_length;
 pub use inputs::input_count;
-pub use inputs::input_record;
-pub use inputs::is_input;
 pub use inputs::is_input_among;
 pub use inputs::with_record;
 pub use reading::verdict;
