@@ -1,9 +1,10 @@
-// Where the fields of a certificate file stand. No other file reads a byte.
-use fields::i32_at;
-use fields::i64_at;
-use fields::u16_at;
-use fields::u32_at;
-use fields::zeros_at;
+// Where the fields of a certificate file stand. No other file knows the place of a field in its block.
+use crate::bytes::u16_at;
+use crate::bytes::u32_at;
+use crate::bytes::u64_at;
+use crate::bytes::zeros_at;
+use fields::i32_of;
+use fields::i64_of;
 use literals::Literal;
 ghost use Prim.Native.Nat.{_+_, _<_, _≤_};
 ghost use mathlib.Core.Path.{_≡_};
@@ -72,7 +73,7 @@ pub fn constraint_head(file: &[u8], at: usize) -> ConstraintHead
     ConstraintHead {
         count: file[at],
         zeros: zeros_at(file, at + 1, 7),
-        bound: i64_at(file, at + 8),
+        bound: i64_of(u64_at(file, at + 8)),
     }
 }
 
@@ -86,7 +87,7 @@ pub fn term_at(file: &[u8], at: usize, j: usize) -> Term
         stream: u16_at(file, term),
         offset: file[term + 2],
         zero: file[term + 3],
-        coefficient: i32_at(file, term + 4) as i64,
+        coefficient: i32_of(u32_at(file, term + 4)) as i64,
     }
 }
 

@@ -1,4 +1,5 @@
 // Certificate files: where their fields stand, rules 11 to 15, and constraints as linear forms.
+mod bytes;
 mod layout;
 mod rules;
 mod search;

@@ -11,24 +11,40 @@ use Rattle.answers.specs.Checks.{every}
 abbrev pub byteAt : List ℕ → ℕ → ℕ
 byteAt s at = getD s at 0
 
+-- a field from two of half its width, the low one first
+abbrev pub u16Of : (low high : ℕ) → ℕ
+u16Of low high = low + high * 2 ^ 8
+
+abbrev pub u32Of : (low high : ℕ) → ℕ
+u32Of low high = low + high * 2 ^ 16
+
+abbrev pub u64Of : (low high : ℕ) → ℕ
+u64Of low high = low + high * 2 ^ 32
+
 abbrev pub u16At : List ℕ → ℕ → ℕ
-u16At s at = byteAt s at + byteAt s (at + 1) * 2 ^ 8
+u16At s at = u16Of (byteAt s at) (byteAt s (at + 1))
 
 abbrev pub u32At : List ℕ → ℕ → ℕ
-u32At s at = u16At s at + u16At s (at + 2) * 2 ^ 16
+u32At s at = u32Of (u16At s at) (u16At s (at + 2))
 
 abbrev pub u64At : List ℕ → ℕ → ℕ
-u64At s at = u32At s at + u32At s (at + 4) * 2 ^ 32
+u64At s at = u64Of (u32At s at) (u32At s (at + 4))
 
 -- two's complement: a word from half its range on stands for the word less the whole range
 unfoldable pub twosComplement : (half : ℕ) → ℕ → ℤ
 twosComplement half word = cond (ltb word half) (pos word) (pos word -ℤ pos (half + half))
 
+abbrev pub i32Of : (word : ℕ) → ℤ
+i32Of = twosComplement (2 ^ 31)
+
+abbrev pub i64Of : (word : ℕ) → ℤ
+i64Of = twosComplement (2 ^ 63)
+
 abbrev pub i32At : List ℕ → ℕ → ℤ
-i32At s at = twosComplement (2 ^ 31) (u32At s at)
+i32At s at = i32Of (u32At s at)
 
 abbrev pub i64At : List ℕ → ℕ → ℤ
-i64At s at = twosComplement (2 ^ 63) (u64At s at)
+i64At s at = i64Of (u64At s at)
 
 -- the count bytes from an offset on are zero
 abbrev pub zerosAt : List ℕ → (at count : ℕ) → Bool

@@ -1,16 +1,10 @@
 // Signed fields: the unsigned word read as two's complement.
-use crate::unsigned::u32_at;
-use crate::unsigned::u64_at;
-ghost use Prim.Native.Nat.{_+_, _≤_};
 ghost use mathlib.Core.Path.{_≡_};
-ghost use lib.ListN.{length};
-ghost use Rattle.fields.specs.Fields.{i32At, i64At};
+ghost use Rattle.fields.specs.Fields.{i32Of, i64Of};
 
-pub fn i32_at(s: &[u8], at: usize) -> i32
-    requires { ⌜ at + 4 ≤ length (now s) ⌝ }
-    ensures { λ r. ⌜ r ≡ i32At (now (s .entry)) at ⌝ }
+pub fn i32_of(word: u32) -> i32
+    ensures { λ r. ⌜ r ≡ i32Of word ⌝ }
 {
-    let word = u32_at(s, at);
     if word < 2147483648 {
         word as i32
     } else {
@@ -18,11 +12,9 @@ pub fn i32_at(s: &[u8], at: usize) -> i32
     }
 }
 
-pub fn i64_at(s: &[u8], at: usize) -> i64
-    requires { ⌜ at + 8 ≤ length (now s) ⌝ }
-    ensures { λ r. ⌜ r ≡ i64At (now (s .entry)) at ⌝ }
+pub fn i64_of(word: u64) -> i64
+    ensures { λ r. ⌜ r ≡ i64Of word ⌝ }
 {
-    let word = u64_at(s, at);
     if word < 9223372036854775808 {
         word as i64
     } else {

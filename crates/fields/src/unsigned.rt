@@ -1,26 +1,21 @@
-// Unsigned fields, each from two of half its width.
-ghost use Prim.Native.Nat.{_+_, _≤_};
+// Unsigned fields, each from two of half its width, the low one first.
 ghost use mathlib.Core.Path.{_≡_};
-ghost use lib.ListN.{length};
-ghost use Rattle.fields.specs.Fields.{u16At, u32At, u64At};
+ghost use Rattle.fields.specs.Fields.{u16Of, u32Of, u64Of};
 
-pub fn u16_at(s: &[u8], at: usize) -> u16
-    requires { ⌜ at + 2 ≤ length (now s) ⌝ }
-    ensures { λ r. ⌜ r ≡ u16At (now (s .entry)) at ⌝ }
+pub fn u16_of(low: u8, high: u8) -> u16
+    ensures { λ r. ⌜ r ≡ u16Of low high ⌝ }
 {
-    (s[at] as u16) + (s[at + 1] as u16) * 256
+    (low as u16) + (high as u16) * 256
 }
 
-pub fn u32_at(s: &[u8], at: usize) -> u32
-    requires { ⌜ at + 4 ≤ length (now s) ⌝ }
-    ensures { λ r. ⌜ r ≡ u32At (now (s .entry)) at ⌝ }
+pub fn u32_of(low: u16, high: u16) -> u32
+    ensures { λ r. ⌜ r ≡ u32Of low high ⌝ }
 {
-    (u16_at(s, at) as u32) + (u16_at(s, at + 2) as u32) * 65536
+    (low as u32) + (high as u32) * 65536
 }
 
-pub fn u64_at(s: &[u8], at: usize) -> u64
-    requires { ⌜ at + 8 ≤ length (now s) ⌝ }
-    ensures { λ r. ⌜ r ≡ u64At (now (s .entry)) at ⌝ }
+pub fn u64_of(low: u32, high: u32) -> u64
+    ensures { λ r. ⌜ r ≡ u64Of low high ⌝ }
 {
-    (u32_at(s, at) as u64) + (u32_at(s, at + 4) as u64) * 4294967296
+    (low as u64) + (high as u64) * 4294967296
 }

@@ -1,7 +1,7 @@
-// Where the fields of a node file stand. No other file reads a byte.
-use fields::i32_at;
-use fields::u16_at;
-use fields::u32_at;
+// Where the fields of a node file stand. No other file knows the place of a field in its block.
+use crate::bytes::u16_at;
+use crate::bytes::u32_at;
+use fields::i32_of;
 ghost use Prim.Native.Nat.{_+_, _≤_};
 ghost use mathlib.Core.Path.{_≡_};
 ghost use lib.ListN.{length};
@@ -57,7 +57,7 @@ pub fn record_at(file: &[u8], at: usize) -> Record
         a: u16_at(file, at + 2),
         b: u16_at(file, at + 4),
         c: u16_at(file, at + 6),
-        k: i32_at(file, at + 8),
+        k: i32_of(u32_at(file, at + 8)),
         rest: u32_at(file, at + 12),
     }
 }

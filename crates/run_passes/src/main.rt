@@ -15,6 +15,7 @@ ghost use Rattle.session.specs.Records.{begunOf};
 ghost use Rattle.run_passes.specs.Pass.{callOf};
 ghost use Rattle.run_passes.specs.Zeroed.{zeroed};
 
+mod bytes;
 mod pass;
 mod say;
 

@@ -1,8 +1,9 @@
 // A pass file is a list of calls, each: u16 input count m, u16 slice length r, m signed 64-bit inputs; all little-endian. A cut-off
 // last call is ignored. A count or a length over 65 is made as 65, which is one more than any node has; the inputs past it are
 // skipped.
-use fields::i64_at;
-use fields::u16_at;
+use crate::bytes::u16_at;
+use crate::bytes::u64_at;
+use fields::i64_of;
 ghost use Prim.Native.Nat.{_≤_};
 ghost use mathlib.Core.Path.{_≡_};
 ghost use Rattle.run_passes.specs.Pass.{firstSize, countAt, inputsFrom};
@@ -51,7 +52,7 @@ pub fn numbers(call: &[u8]) -> [i64; 65]
         if call.len() < 12 + 8 * i {
             break;
         }
-        inputs[i] = i64_at(call, 4 + 8 * i);
+        inputs[i] = i64_of(u64_at(call, 4 + 8 * i));
         i += 1;
     }
     inputs

@@ -7,7 +7,7 @@ use native.Mathlib.Nat.{zero-add, sub-zero, zero-sub, suc-sub-suc}
 use native.Mathlib.Numerals.{add-one}
 use native.Mathlib.Omega.{arith}
 use lib.ListN.{length, getD, set, take, drop, replicate, length-append, length-replicate}
-use lib.Seq.{ext-getD, getD-drop, take-at, take-all, drop-length, paste-suc, length-paste}
+use lib.Seq.{ext-getD, getD-drop, take-at, take-all, drop-length, paste-suc}
 use Rattle.session.specs.Records.{filled}
 
 module _ {A : Type 0} where
@@ -39,9 +39,6 @@ module _ {A : Type 0} where
 
   pub over-more : (d l : List A) (i : ℕ) (z : A) → i < length d → i < length l → set (over d l i) i (getD l i z) ≡ over d l (i + 1)
   over-more d l i z h k = simp add-one (simp zero-add at (paste-suc d 0 l i z (simp zero-add h) k))
-
-  pub over-length : (d l : List A) (i : ℕ) → i ≤ length d → i ≤ length l → length (over d l i) ≡ length d
-  over-length d l i h k = simp zero-add at (length-paste d 0 l i (simp zero-add h) k)
 
   pub over-whole : (d l : List A) → over d l (length d) ≡ take (length d) l
   over-whole d l = ap (λ (r : List A). take (length d) l ++ r) (drop-length d) ∙ append-nil (take (length d) l)

@@ -51,6 +51,10 @@ valueTyped file values i = fitsTest (kindAt file i) (valuesIn values i)
 abbrev pub isNode : (file : List ℕ) → (first : Bool) → (last : List ℤ) → Bool
 isNode file first last = isAccepted (verdictOf file) && (first || every (valueTyped file last) (streamsOf file))
 
+-- the first bytes of a record's file are such a node
+abbrev pub holds : (file : List ℕ) → (size : ℕ) → (first : Bool) → (last : List ℤ) → Bool
+holds file size first last = leb size 1040 && isNode (take size file) first last
+
 -- 30: "record holds no node passing 1 to 8, or, past instant 0, a bool of the last answered instant is not 0 or 1"
 unfoldable pub holdsNode : Session → Bool
-holdsNode s = leb (s .length) 1040 && isNode (held s) (unstarted s) (s .last)
+holdsNode s = holds (s .file) (s .length) (unstarted s) (s .last)

@@ -1,8 +1,7 @@
 -- What the steps of an instant's call give.
 use Prim.Native.Nat.{ℕ}
 use mathlib.Core.List.{List}
-use mathlib.Core.Bool.{Bool, true, false, cond, _&&_}
-use lib.Dec.{leb}
+use mathlib.Core.Bool.{Bool, true, false, cond}
 use lib.IntN.{ℤ, pos}
 use lib.ListN.{take}
 use Rattle.integers.specs.declared.Checked.{Checked}
@@ -10,7 +9,7 @@ use Rattle.integers.specs.declared.Checked.the-variants.{Value, Outside}
 use Rattle.node.specs.Layout.{streamsOf}
 use Rattle.session.specs.declared.holding.Held.{Held}
 use Rattle.session.specs.declared.holding.Held.the-variants.{Streams, NoNode}
-use Rattle.session.specs.Records.{isNode}
+use Rattle.session.specs.Records.{isNode, holds}
 
 -- the node that a file holds
 unfoldable pub nodeIn : (file : List ℕ) → (first : Bool) → (last : List ℤ) → Held
@@ -18,8 +17,7 @@ nodeIn file first last = cond (isNode file first last) (Streams (streamsOf file)
 
 -- the node that a record with these parts holds
 unfoldable pub nodeHeld : (file : List ℕ) → (size : ℕ) → (first : Bool) → (last : List ℤ) → Held
-nodeHeld file size first last =
-    cond (leb size 1040 && isNode (take size file) first last) (Streams (streamsOf (take size file))) NoNode
+nodeHeld file size first last = cond (holds file size first last) (Streams (streamsOf (take size file))) NoNode
 
 -- a checked value is there; what the array takes of it, 0 where it is not
 abbrev pub isValue : Checked → Bool

@@ -112,7 +112,7 @@ unfoldable pub trueAndInts : List ℕ
 trueAndInts = nodeFile (rec 1 0 0 0 0 (pos 1) ∷ rec 0 1 0 0 0 (pos 0) ∷ rec 0 1 0 0 0 (pos 0) ∷ []) 0
 
 -- a whole certificate for it whose last base line, 3, is of kind 4 with multipliers 1 and 1: its literals are the negations of
--- "1 − 2 at most" one bound and "2 − 1 at most" another, so that these two are its opposites
+-- "u − v at most" one bound and "v − u at most" another, u and v being 1 and 2, so that these two are its opposites
 unfoldable pub opposites : (one other : List ℕ) → List ℕ
 opposites one other =
     certificateFile 1

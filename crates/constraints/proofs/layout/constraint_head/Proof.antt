@@ -15,14 +15,17 @@ add-zeros-at c = search needs
 zeros-at-requires : tie.Need-zeros-at-requires
 zeros-at-requires c κs = search needs
 
-add-i64-at : tie.Need-add-i64-at
-add-i64-at c = search needs
+add-u64-at : tie.Need-add-u64-at
+add-u64-at c = search needs
 
-i64-at-requires : tie.Need-i64-at-requires
-i64-at-requires c κs = search needs
+u64-at-requires : tie.Need-u64-at-requires
+u64-at-requires c κs = search needs
+
+i64-of-requires : tie.Need-i64-of-requires
+i64-of-requires c κs = search needs
 
 returns : tie.Need-returns
-returns c = rw (toZ-ofZ w64 _ (record { sfits = c .i64-at .ok }), c .i64-at .ensures, c .before .zeros-at .ensures)
+returns c = rw (toZ-ofZ w64 _ (record { sfits = c .i64-of .ok }), c .i64-of .ensures, c .before .u64-at .ensures, c .before .before .zeros-at .ensures)
 
 pub constraint-head-spec : {M : Type 1} → statement M
 constraint-head-spec =
@@ -31,6 +34,7 @@ constraint-head-spec =
     shared-slice-read-t4
     add-zeros-at
     zeros-at-requires
-    add-i64-at
-    i64-at-requires
+    add-u64-at
+    u64-at-requires
+    i64-of-requires
     returns)

@@ -33,23 +33,26 @@ add-t6 c = search needs
 shared-slice-read-t11 : tie.Need-shared-slice-read-t11
 shared-slice-read-t11 c = search needs
 
-add-i32-at : tie.Need-add-i32-at
-add-i32-at c = search needs
+add-u32-at : tie.Need-add-u32-at
+add-u32-at c = search needs
 
-i32-at-requires : tie.Need-i32-at-requires
-i32-at-requires c κs = search needs
+u32-at-requires : tie.Need-u32-at-requires
+u32-at-requires c κs = search needs
 
-read : (c : tie.After-i32-at) → toZ w32 (ofZ w32 (c .i32-at .result)) ≡ c .i32-at .result
-read c = toZ-ofZ w32 _ (record { sfits = c .i32-at .ok })
+i32-of-requires : tie.Need-i32-of-requires
+i32-of-requires c κs = search needs
 
-wide : (c : tie.After-i32-at) → SFits w64 (c .i32-at .result)
-wide c = sfits-widen {w = w32} tt (record { sfits = c .i32-at .ok })
+read : (c : tie.After-i32-of) → toZ w32 (ofZ w32 (c .i32-of .result)) ≡ c .i32-of .result
+read c = toZ-ofZ w32 _ (record { sfits = c .i32-of .ok })
 
-cast-t14 : tie.Need-cast-t14
-cast-t14 c = rw (read c) (wide c)
+wide : (c : tie.After-i32-of) → SFits w64 (c .i32-of .result)
+wide c = sfits-widen {w = w32} tt (record { sfits = c .i32-of .ok })
+
+cast-t15 : tie.Need-cast-t15
+cast-t15 c = rw (read c) (wide c)
 
 returns : tie.Need-returns
-returns c = rw (read c, toZ-ofZ w64 _ (wide c), c .i32-at .ensures, c .before .before .before .u16-at .ensures)
+returns c = rw (read c, toZ-ofZ w64 _ (wide c), c .i32-of .ensures, c .before .u32-at .ensures, c .before .before .before .before .u16-at .ensures)
 
 pub term-at-spec : {M : Type 1} → statement M
 term-at-spec =
@@ -63,7 +66,8 @@ term-at-spec =
     shared-slice-read-t9
     add-t6
     shared-slice-read-t11
-    add-i32-at
-    i32-at-requires
-    cast-t14
+    add-u32-at
+    u32-at-requires
+    i32-of-requires
+    cast-t15
     returns)

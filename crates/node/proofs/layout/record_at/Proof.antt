@@ -33,28 +33,33 @@ add-u16-at-3 c = search needs
 u16-at-requires-3 : tie.Need-u16-at-requires-3
 u16-at-requires-3 c κs = search needs
 
-add-i32-at : tie.Need-add-i32-at
-add-i32-at c = search needs
-
-i32-at-requires : tie.Need-i32-at-requires
-i32-at-requires c κs = search needs
-
 add-u32-at : tie.Need-add-u32-at
 add-u32-at c = search needs
 
 u32-at-requires : tie.Need-u32-at-requires
 u32-at-requires c κs = search needs
 
+i32-of-requires : tie.Need-i32-of-requires
+i32-of-requires c κs = search needs
+
+add-u32-at-2 : tie.Need-add-u32-at-2
+add-u32-at-2 c = search needs
+
+u32-at-requires-2 : tie.Need-u32-at-requires-2
+u32-at-requires-2 c κs = search needs
+
 returns : tie.Need-returns
 returns c =
     let k = c .before in
+    let word = k .before in
     rw (
-      toZ-ofZ w32 _ (record { sfits = k .i32-at .ok }),
-      c .u32-at .ensures,
-      k .i32-at .ensures,
-      k .before .u16-at3 .ensures,
-      k .before .before .u16-at2 .ensures,
-      k .before .before .before .u16-at .ensures,
+      toZ-ofZ w32 _ (record { sfits = k .i32-of .ok }),
+      c .u32-at2 .ensures,
+      k .i32-of .ensures,
+      word .u32-at .ensures,
+      word .before .u16-at3 .ensures,
+      word .before .before .u16-at2 .ensures,
+      word .before .before .before .u16-at .ensures,
     )
 
 pub record-at-spec : {M : Type 1} → statement M
@@ -70,8 +75,9 @@ record-at-spec =
     u16-at-requires-2
     add-u16-at-3
     u16-at-requires-3
-    add-i32-at
-    i32-at-requires
     add-u32-at
     u32-at-requires
+    i32-of-requires
+    add-u32-at-2
+    u32-at-requires-2
     returns)

@@ -1,6 +1,6 @@
 -- `run_passes::pass::numbers` meets its contract. The loop's invariant: the inputs passed are there, and zeros after them.
 -- Assumes nothing.
-use mathlib.Core.Path.{_≡_, refl, _∙_}
+use mathlib.Core.Path.{_≡_, refl, _∙_, ap}
 use Prim.Native.Nat.{ℕ, _+_, _-_, _*_, _<_, _≤_}
 use native.Mathlib.Omega.{arith}
 use denote.Ref.{now}
@@ -9,7 +9,7 @@ use lib.ListN.{length, getD, length-set}
 use mir.Syntax.{w64}
 use mir.ValLaws.{toZ-ofZ}
 use Rattle.answers.proofs.FromTheFront.{below, none-set, one-more-set}
-use Rattle.fields.specs.Fields.{i64At}
+use Rattle.fields.specs.Fields.{i64Of, i64At}
 use Rattle.run_passes.specs.Pass.{inputAt}
 use Rattle.run_passes.proofs.Calls.{input-there, all-read, cut-off, inputs-are}
 use borrow.Author.Needs.{needs}
@@ -32,14 +32,17 @@ mul-if1 c = search needs
 add-if1 : tie.Need-add-if1 Inv-loop μ-loop
 add-if1 c = search needs
 
-mul-i64-at : tie.Need-mul-i64-at Inv-loop μ-loop
-mul-i64-at c = search needs
+mul-u64-at : tie.Need-mul-u64-at Inv-loop μ-loop
+mul-u64-at c = search needs
 
-add-i64-at : tie.Need-add-i64-at Inv-loop μ-loop
-add-i64-at c = search needs
+add-u64-at : tie.Need-add-u64-at Inv-loop μ-loop
+add-u64-at c = search needs
 
-i64-at-requires : tie.Need-i64-at-requires Inv-loop μ-loop
-i64-at-requires c κs = search needs
+u64-at-requires : tie.Need-u64-at-requires Inv-loop μ-loop
+u64-at-requires c κs = search needs
+
+i64-of-requires : tie.Need-i64-of-requires Inv-loop μ-loop
+i64-of-requires c κs = search needs
 
 mul-inputs : tie.Need-mul-inputs Inv-loop μ-loop
 mul-inputs c = search needs
@@ -55,14 +58,15 @@ loop-less c = search needs
 
 loop-again : tie.Need-loop-again Inv-loop μ-loop
 loop-again c =
-    let at = c .before .before .before in
+    let word = c .before in
+    let at = word .before .before .before in
     let call = now (at .before .before .args .call) in
     let inv = at .loop .inv in
-    let there : i64At call (4 + 8 * at .loop .i) ≡ inputAt call (at .loop .i) = input-there call (at .loop .i) (c .before .if1 .left) in (
+    let there : i64At call (4 + 8 * at .loop .i) ≡ inputAt call (at .loop .i) = input-there call (at .loop .i) (word .before .if1 .left) in (
       search needs,
       simp length-set (inv .1),
-      rw (toZ-ofZ w64 _ (record { sfits = c .i64-at .ok }))
-          (one-more-set (inputAt call) (pos 0) (at .loop .inputs) (at .loop .i) (c .i64-at .result) (omega (arith, c .before .before .loop-test .taken, inv .1)) (c .i64-at .ensures ∙ there) (inv .2)),
+      rw (toZ-ofZ w64 _ (record { sfits = c .i64-of .ok }))
+          (one-more-set (inputAt call) (pos 0) (at .loop .inputs) (at .loop .i) (c .i64-of .result) (omega (arith, word .before .before .loop-test .taken, inv .1)) (c .i64-of .ensures ∙ ap i64Of (word .u64-at .ensures) ∙ there) (inv .2)),
     )
 
 returns : tie.Need-returns Inv-loop μ-loop
@@ -86,9 +90,10 @@ numbers-spec =
     loop-holds
     mul-if1
     add-if1
-    mul-i64-at
-    add-i64-at
-    i64-at-requires
+    mul-u64-at
+    add-u64-at
+    u64-at-requires
+    i64-of-requires
     mul-inputs
     array-set-from-inputs
     add-i

@@ -3,7 +3,6 @@
 use native.Mathlib.Omega.{arith}
 use Rattle.node.proofs.Notes.{accepted-room}
 use Rattle.session.proofs.Beginnings.{few-streams, begun-is}
-use borrow.Author.Needs.{needs}
 use Rattle.session.proofs.beginning.session_on.Statement.{statement}
 use Rattle.session.proofs.beginning.session_on.Tie as tie
 

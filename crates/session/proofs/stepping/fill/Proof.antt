@@ -7,7 +7,7 @@ use denote.Ref.{now}
 use lib.ListN.{length, length-set}
 use mir.Syntax.{w64}
 use mir.ValLaws.{toZ-ofZ}
-use Rattle.session.proofs.Filled.{over, over-more, over-whole}
+use Rattle.session.proofs.Filled.{over, over-more}
 use borrow.Author.Needs.{needs}
 use Rattle.session.proofs.stepping.fill.Statement.{statement}
 use Rattle.session.proofs.stepping.fill.Tie as tie

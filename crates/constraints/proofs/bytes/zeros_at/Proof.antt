@@ -1,4 +1,4 @@
--- `fields::zeros_at` meets its contract. The loop's invariant: the bytes passed are zero.
+-- `constraints::bytes::zeros_at` meets its contract. The loop's invariant: the bytes passed are zero.
 -- Assumes nothing.
 use mathlib.Core.Path.{_≡_, sym}
 use mathlib.Core.Bool.{true}
@@ -6,10 +6,10 @@ use Prim.Native.Nat.{_≤_, _-_}
 use native.Mathlib.Omega.{arith}
 use borrow.Author.Needs.{needs}
 use borrow.Author.Tests.{eq-eqb, ne-eqb}
 use Rattle.fields.specs.Fields.{zerosAt}
 use Rattle.answers.proofs.Every.{every-none, every-more, every-not}
-use Rattle.fields.proofs.zeros.zeros_at.Statement.{statement}
-use Rattle.fields.proofs.zeros.zeros_at.Tie as tie
+use Rattle.constraints.proofs.bytes.zeros_at.Statement.{statement}
+use Rattle.constraints.proofs.bytes.zeros_at.Tie as tie
 
 abbrev Inv-loop : tie.InvT-loop
 Inv-loop s at count i₀ i = (i ≤ count) × (zerosAt s at i ≡ true)
