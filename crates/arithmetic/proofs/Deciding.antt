@@ -1,8 +1,8 @@
 -- The tests of a line, in the order in which the code meets them.
 -- Assumes nothing.
-use mathlib.Core.Path.{_≡_, sym, _∙_, ap}
+use mathlib.Core.Path.{_≡_, refl, sym, _∙_, ap, subst}
 use mathlib.Core.List.{List}
-use mathlib.Core.Bool.{Bool, true, false, _&&_}
+use mathlib.Core.Bool.{Bool, true, false, cond, _&&_}
 use Prim.Native.Nat.{ℕ, _≤_, _<_}
 use native.Mathlib.Omega.{arith}
 use borrow.Author.Tests.{le-leb, lt-leb}
@@ -11,19 +11,22 @@ use lib.ListN.{replicate}
 use lib.Signed.{leZ}
 use Rattle.answers.specs.Checks.{every}
 use Rattle.answers.proofs.Every.{every-all}
-use Rattle.answers.proofs.Tests.{both-true}
 use Rattle.constraints.specs.Layout.{Constraint, Line, lineHeadAt, literalAt}
 use Rattle.literals.specs.Literals.{atomOf, isConstraint}
 use Rattle.rules.specs.Limited.{Named}
 use Rattle.rules.specs.Arithmetic.{sumOf, arithmeticOk}
-use Rattle.arithmetic.specs.Sums.{sumsOf, termsZero}
+use Rattle.rules.proofs.Contradiction.{accepted}
+use Rattle.arithmetic.specs.Sums.{addForm, sumsOf, sumsAfter, termsZero}
 use Rattle.arithmetic.specs.Checkable.{Usable, Checkable}
-use Rattle.arithmetic.proofs.Adding.{on}
-use Rattle.arithmetic.proofs.Named.{named-suffice, named-clear}
+use Rattle.arithmetic.proofs.Adding.{on, sums-are, length-sums}
+use Rattle.arithmetic.proofs.Named.{every-of, zeros-are, named-suffice}
 
 module _ (constraints : ℕ → Constraint) (line : Line) (n : ℕ) (e : n ≡ line .head .count) where
+  abbrev ok : ℕ → Bool
+  ok j = isConstraint (atomOf (line .literal j))
+
   abbrev allOn : Bool
-  allOn = every (λ j. isConstraint (atomOf (line .literal j))) n
+  allOn = every ok n
 
   pub ends-none : n < 1 → false ≡ arithmeticOk constraints line
   unfolding arithmeticOk
@@ -41,12 +44,32 @@ module _ (constraints : ℕ → Constraint) (line : Line) (n : ℕ) (e : n ≡ l
   ends l f sums bound g h below =
       rw (g, h, named-suffice constraints line n below, ← e, le-leb 1 n l, f)
 
-  -- the sums of a line that passes
-  pub ends-clear : (sums : List ℤ) (b : Bool) → sums ≡ sumsOf constraints line n
-      → (every (λ j. termsZero sums (on constraints line j)) n && b) ≡ true → sums ≡ replicate 576 (pos 0)
-  ends-clear sums b g t =
-      let zeros : (List ℤ) → Bool = λ sums. every (λ j. termsZero sums (on constraints line j)) n in
-      g ∙ named-clear constraints line n (ap zeros (sym g) ∙ both-true (zeros sums) b t .0)
+  -- ---- what the sums hold
+
+  pub after-all : allOn ≡ true → sumsOf constraints line n ≡ sumsAfter constraints line
+  unfolding sumsAfter
+  after-all f =
+      ap (sumsOf constraints line) e
+      ∙ sym (ap (λ (b : Bool). cond b (sumsOf constraints line (line .head .count)) (replicate 576 (pos 0))) (subst (λ (m : ℕ). every ok m ≡ true) e f))
+
+  pub after-other : allOn ≡ false → replicate 576 (pos 0) ≡ sumsAfter constraints line
+  unfolding sumsAfter
+  after-other f =
+      sym (ap (λ (b : Bool). cond b (sumsOf constraints line (line .head .count)) (replicate 576 (pos 0))) (subst (λ (m : ℕ). every ok m ≡ false) e f))
+
+  pub after-none : n < 1 → replicate 576 (pos 0) ≡ sumsAfter constraints line
+  unfolding sumOf addForm every
+  after-none l =
+      let none : n ≡ 0 = omega arith in
+      ap (sumsOf constraints line) (sym none) ∙ after-all (ap (every ok) none)
+
+-- a line that passes leaves the sums at zero
+pub passed-clear : (constraints : ℕ → Constraint) (line : Line) → arithmeticOk constraints line ≡ true → sumsAfter constraints line ≡ replicate 576 (pos 0)
+passed-clear constraints line e =
+    let n = line .head .count in
+    let told = accepted constraints line e in
+    sym (after-all constraints line n refl (every-of (λ j. isConstraint (atomOf (line .literal j))) n (told .on-constraints)))
+    ∙ zeros-are 576 (sumsOf constraints line n) (length-sums constraints line n) λ x l. sums-are constraints line n x l ∙ told .zeros x l
 
 -- where all literals are on constraints, each is usable
 pub each-usable : (s : List ℕ) (start at n : ℕ) → Checkable s start at → n ≡ lineHeadAt s at .count

@@ -15,9 +15,8 @@ use Rattle.constraints.specs.Layout.{Constraint, Line}
 use Rattle.constraints.specs.Linear.{Form, variable, coefficient, scaled, written, sameZ}
 use Rattle.rules.specs.Arithmetic.{sumOf}
 use Rattle.rules.specs.Limited.{Named}
-use Rattle.rules.proofs.Contents.{same-means}
 use Rattle.arithmetic.specs.Sums.{sumsOf, zeroAt, termsZero}
-use Rattle.arithmetic.proofs.Adding.{on, factor, form-more, sums-are, length-sums}
+use Rattle.arithmetic.proofs.Adding.{on, factor, form-more, sums-are}
 
 -- the variable of term j
 abbrev named : Constraint → (j : ℕ) → ℕ
@@ -38,7 +37,7 @@ every-of ok zero h = refl
 every-of ok (suc n) h = rw (every-of ok n (λ k l. h k (omega arith)), h n (le-refl (suc n)))
 
 -- a list of n numbers that are all 0
-zeros-are : (n : ℕ) (l : List ℤ) → length l ≡ n → ((x : ℕ) → x < n → getD l x (pos 0) ≡ pos 0) → l ≡ replicate n (pos 0)
+pub zeros-are : (n : ℕ) (l : List ℤ) → length l ≡ n → ((x : ℕ) → x < n → getD l x (pos 0) ≡ pos 0) → l ≡ replicate n (pos 0)
 zeros-are zero [] e h = refl
 zeros-are zero (z ∷ l) e h = absurd (omega (arith, e))
 zeros-are (suc n) [] e h = absurd (omega (arith, e))
@@ -98,9 +97,3 @@ module _ (constraints : ℕ → Constraint) (line : Line) where
         let c = on constraints line i in
         every-of (zeroAt sums c) (c .head .count)
         (λ j m. same-zero (named c j) (below i k j m) ∙ every-all zeroSum 576 all (named c j) (below i k j m))))
-
-    -- where it holds, the sums are all 0
-    pub named-clear : every zeroOf n ≡ true → sums ≡ replicate 576 (pos 0)
-    named-clear all =
-        zeros-are 576 sums (length-sums constraints line n) λ x l.
-        sums-are constraints line n x l ∙ same-means _ (pos 0) (zero-anywhere all x l (zeroSum x) refl)

@@ -7,7 +7,7 @@ use lib.ListN.{getD, set, replicate}
 use Rattle.answers.specs.Checks.{every}
 use Rattle.constraints.specs.Layout.{Constraint, Line, constraintAt, literalAt}
 use Rattle.constraints.specs.Linear.{Form, variable, sameZ}
-use Rattle.literals.specs.Literals.{atomOf, isNegated, constraintNumber}
+use Rattle.literals.specs.Literals.{atomOf, isNegated, isConstraint, constraintNumber}
 use Rattle.rules.specs.Arithmetic.{sumOf}
 
 -- a number added at a variable
@@ -22,6 +22,13 @@ addForm sums (m ∷ ms) = addAt (addForm sums ms) (m .of) (m .times)
 -- the coefficients of the first n literals' sum
 abbrev pub sumsOf : (ℕ → Constraint) → Line → (n : ℕ) → List ℤ
 sumsOf constraints line n = addForm (replicate 576 (pos 0)) (sumOf constraints line n .form)
+
+-- what the sums hold after a line, lent at zero: its sum where each of its literals is on a constraint, else they stay at zero
+unfoldable pub sumsAfter : (ℕ → Constraint) → Line → List ℤ
+sumsAfter constraints line =
+    cond (every (λ j. isConstraint (atomOf (line .literal j))) (line .head .count))
+    (sumsOf constraints line (line .head .count))
+    (replicate 576 (pos 0))
 
 -- the constraints of a file whose first one stands at `start`
 abbrev pub constraintsFrom : List ℕ → (start : ℕ) → ℕ → Constraint

@@ -8,21 +8,20 @@ use crate::sums::are_zero;
 use crate::sums::bound_of;
 use constraints::line_head;
 ghost use mathlib.Core.Path.{_≡_};
-ghost use mathlib.Core.Bool.{true};
 ghost use lib.IntN.{pos};
 ghost use lib.ListN.{replicate};
 ghost use Rattle.constraints.specs.Layout.{lineAt};
 ghost use Rattle.rules.specs.Arithmetic.{arithmeticOk};
-ghost use Rattle.arithmetic.specs.Sums.{constraintsFrom};
+ghost use Rattle.arithmetic.specs.Sums.{constraintsFrom, sumsAfter};
 ghost use Rattle.arithmetic.specs.Checkable.{Checkable};
 
-// Rule 20, of the line at an offset of a file whose constraints start at another. The sums are lent at zero, and a line that
-// passes leaves them so.
+// Rule 20, of the line at an offset of a file whose constraints start at another. The sums are lent at zero, and hold the
+// line's after it; those of a line that passes are zero again.
 pub fn arithmetic_ok(sums: &mut [i64], file: &[u8], start: usize, at: usize) -> bool
     requires { ⌜ Checkable (now file) start at ⌝ }
     requires { ⌜ now sums ≡ replicate 576 (pos 0) ⌝ }
     ensures answer { λ r. ⌜ r ≡ arithmeticOk (constraintsFrom (now (file .entry)) start) (lineAt (now (file .entry)) at) ⌝ }
-    ensures cleared { λ r. ⌜ (r ≡ true → now (sums .exit) ≡ replicate 576 (pos 0)) ⌝ }
+    ensures sums { λ r. ⌜ now (sums .exit) ≡ sumsAfter (constraintsFrom (now (file .entry)) start) (lineAt (now (file .entry)) at) ⌝ }
 {
     let head = line_head(file, at);
     let count = head.count as usize;

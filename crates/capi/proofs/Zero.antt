@@ -1,10 +1,11 @@
 -- Number 0 says accepted: every refusal's number is above 0.
 -- Assumes nothing.
 use mathlib.Core.Path.{_≡_, refl}
-use mathlib.Core.Bool.{Bool, true, false, cond}
+use mathlib.Core.Bool.{Bool, true, false}
 use mathlib.Core.List.{List}
-use Prim.Native.Nat.{ℕ, _+_, _<_}
+use Prim.Native.Nat.{ℕ, _<_}
 use native.Mathlib.Omega.{arith}
+use borrow.Author.Tests.{eqb-false}
 use lib.Dec.{eqb}
 use lib.IntN.{ℤ}
 use lib.ListN.{length}
@@ -14,6 +15,7 @@ use Rattle.answers.specs.declared.Place.{Place}
 use Rattle.answers.specs.declared.Place.the-variants.{File, Record as AtRecord, Constraint as AtConstraint, Line as AtLine, Base, Step}
 use Rattle.answers.specs.Answer.{Answer, accepted, refused, isAccepted, NodeValues, CertificateValues}
 use Rattle.answers.specs.Checks.{check, checkAll, lowest}
+use Rattle.answers.proofs.Lowest.{first}
 use Rattle.node.specs.declared.reading.RecordRule.the-variants.{Shape, Operands, Types}
 use Rattle.node.specs.Inputs.{inputCount}
 use Rattle.node.specs.Layout as node-layout
@@ -27,7 +29,7 @@ use Rattle.session.specs.Records.{held, holdsNode}
 use Rattle.constraints.specs.Layout.{trailerOf, lineOf}
 use Rattle.constraints.specs.Rules.{fixedOk, countsOk, distanceOk}
 use Rattle.rules.specs.Lines.{hasEmpty}
-use Rattle.rules.specs.Verdict.{linesOf, baseOf, stepOf, constraintPasses, shapePasses, linePasses, checkLines, lineNumber, linesVerdict, constraintsVerdict, certificateVerdict, afterNode, verdictOf}
+use Rattle.rules.specs.Verdict.{linesOf, baseOf, stepOf, constraintPasses, lineFault, linePasses, checkLines, partsVerdict, linesVerdict, constraintsVerdict, fileVerdict, andThen, beforeLines, verdictOf}
 use Rattle.capi.specs.declared.told.Told.{Told}
 use Rattle.capi.specs.Answers.{toldAccepted, toldOf, toldNode, toldCertificate, toldInstant}
 use Rattle.capi.specs.Theorems.{ZeroAccepts}
@@ -72,38 +74,43 @@ node-numbered file =
     (tested (node-rules.propertyOk (node-layout.typeOf file (propertyOf file))) 8 (AtRecord (propertyOf file)) _ (omega arith)
     (none _))))))))
 
--- 16, or 16 and the line's kind
-line-number-above : (shape : Bool) (kind : ℕ) → 0 < cond shape (16 + kind) 16
-line-number-above true kind = omega arith
-line-number-above false kind = omega arith
-
-lines : (found : Found) (number : ℕ → ℕ) (rest : Answer CertificateValues) → ((i : ℕ) → 0 < number i) → Numbered rest → Numbered (checkLines found number rest)
-lines (At i) number rest l n = above CertificateValues (number i) (AtLine i) (l i)
+lines : (found : Found) (number : ℕ → ℕ) (rest : Answer CertificateValues) → ((i : ℕ) → found ≡ At i → 0 < number i) → Numbered rest → Numbered (checkLines found number rest)
+lines (At i) number rest l n = above CertificateValues (number i) (AtLine i) (l i refl)
 lines Nothing number rest l n = n
 
-certificate-numbered : (node cert : List ℕ) → Numbered (certificateVerdict node cert)
-unfolding certificateVerdict constraintsVerdict linesVerdict
-certificate-numbered node cert =
+-- the number of a line that breaks a rule
+line-above : (node cert : List ℕ) (i : ℕ) → lowest (linePasses node cert) (linesOf cert) ≡ At i → 0 < lineFault node cert i
+line-above node cert i e = omega (arith, eqb-false (lineFault node cert i) 0 (first _ _ _ e .fails))
+
+lines-numbered : (node cert : List ℕ) → Numbered (linesVerdict node cert)
+unfolding linesVerdict partsVerdict
+lines-numbered node cert =
+    lines (lowest (linePasses node cert) (linesOf cert)) (lineFault node cert) _ (line-above node cert)
+    (tested (hasEmpty (lineOf cert) (baseOf node cert)) 21 Base _ (omega arith)
+    (tested (hasEmpty (lineOf cert) (stepOf node cert)) 21 Step _ (omega arith)
+    (none _)))
+
+file-numbered : (node cert : List ℕ) → Numbered (fileVerdict node cert)
+unfolding fileVerdict constraintsVerdict
+file-numbered node cert =
     let t = trailerOf cert in
     tested (lengthOk (length cert)) 11 File _ (omega arith)
     (tested (fixedOk t) 12 File _ (omega arith)
     (tested (countsOk t) 13 File _ (omega arith)
     (tested (distanceOk t (length cert)) 14 File _ (omega arith)
     (tested-all (lowest (constraintPasses node cert) (t .constraints)) 15 AtConstraint _ (omega arith)
-    (lines (lowest (linePasses node cert) (linesOf cert)) (lineNumber node cert) _ (λ i. line-number-above (shapePasses node cert i) (lineOf cert i .head .kind))
-    (tested (hasEmpty (lineOf cert) (baseOf node cert)) 21 Base _ (omega arith)
-    (tested (hasEmpty (lineOf cert) (stepOf node cert)) 21 Step _ (omega arith)
-    (none _))))))))
+    (none _)))))
 
-after : (a : Answer NodeValues) (b : Answer CertificateValues) → Numbered a → Numbered b → Numbered (afterNode a b)
+after : {A B : Type 0} (a : Answer A) (b : Answer B) → Numbered a → Numbered b → Numbered (andThen a b)
 unfolding Numbered
 after (accepted v) b n m = m
 after (refused number place) b n m = n
 
 verdict-numbered : (node cert : List ℕ) → Numbered (verdictOf node cert)
-unfolding verdictOf
+unfolding verdictOf beforeLines
 verdict-numbered node cert =
-    after (nodeVerdict node) (certificateVerdict node cert) (node-numbered node) (certificate-numbered node cert)
+    after (beforeLines node cert) (linesVerdict node cert)
+    (after (nodeVerdict node) (fileVerdict node cert) (node-numbered node) (file-numbered node cert)) (lines-numbered node cert)
 
 instant-numbered : (s : Session) (inputs : List ℤ) (room : ℕ) → Numbered (answerOf s inputs room)
 unfolding answerOf

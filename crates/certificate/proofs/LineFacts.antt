@@ -1,7 +1,7 @@
 -- A line that passes rule 16 in a file that passes rules 11 to 15 gives the rules after it what they ask.
 -- Assumes nothing.
 use mathlib.Core.Path.{_≡_, sym, _∙_, ap, ap₂, subst}
-use mathlib.Core.Bool.{true, false}
+use mathlib.Core.Bool.{true}
 use mathlib.Core.List.{List}
 use Prim.Native.Nat.{ℕ, _+_, _*_, _<_, _≤_}
 use native.Mathlib.Omega.{arith}
@@ -10,6 +10,7 @@ use Rattle.node.specs.Layout.{streamsOf, propertyOf, recordsOf}
 use Rattle.node.proofs.FileRules.{sizes}
 use Rattle.constraints.specs.declared.layout.Trailer.{Trailer}
 use Rattle.constraints.specs.Layout.{Line, trailerOf, startOf, constraintOf, lineAt, lineOf}
+use Rattle.rules.specs.declared.pattern.Place.the-variants.{Opening, Unsure}
 use Rattle.rules.specs.Lines.{Window, equationIn}
 use Rattle.rules.specs.Verdict.{sortsOfNode, partOf, shapePasses, equationPasses}
 use Rattle.rules.proofs.ConstraintLimits.{Few, limited}
@@ -65,19 +66,19 @@ module _ (node cert sorts : List ℕ) (t : Trailer) (n property : ℕ) (ch : Che
   counted = ch .streams ∙ sym (sizes node (ch .node-rules .file) .records)
 
   -- rule 17 in the part that a line stands in
-  equation-in : (w : Window) (i start lines : ℕ) → partOf cert (propertyOf node) i ≡ w → start ≡ startOf cert → lines ≡ linesStart cert → equationIn n (kindAt node) (equationAt node) (constraintsFrom cert start) (t .constraints) (w .offsets) (w .isBase) (lineAt cert (lines + 80 * i)) ≡ equationPasses node cert i
+  equation-in : (w : Window) (i start lines : ℕ) → partOf cert (propertyOf node) i ≡ w → start ≡ startOf cert → lines ≡ linesStart cert → equationIn n (kindAt node) (equationAt node) (constraintsFrom cert start) (t .constraints) (w .offsets) (w .opening) (lineAt cert (lines + 80 * i)) ≡ equationPasses node cert i
   equation-in w i start lines e f g =
       rw (f, g, ch .streams, ch .trailer)
       (ap₂
-      (λ (v : Window) (line : Line). equationIn (streamsOf node) (kindAt node) (equationAt node) (constraintOf cert) (trailerOf cert .constraints) (v .offsets) (v .isBase) line)
+      (λ (v : Window) (line : Line). equationIn (streamsOf node) (kindAt node) (equationAt node) (constraintOf cert) (trailerOf cert .constraints) (v .offsets) (v .opening) line)
       (sym e) (sym (line-is cert i)))
 
-  pub equation-base : (i start lines : ℕ) → i < t .base → start ≡ startOf cert → lines ≡ linesStart cert → equationIn n (kindAt node) (equationAt node) (constraintsFrom cert start) (t .constraints) (t .depth) true (lineAt cert (lines + 80 * i)) ≡ equationPasses node cert i
+  pub equation-base : (i start lines : ℕ) → i < t .base → start ≡ startOf cert → lines ≡ linesStart cert → equationIn n (kindAt node) (equationAt node) (constraintsFrom cert start) (t .constraints) (t .depth) Opening (lineAt cert (lines + 80 * i)) ≡ equationPasses node cert i
   equation-base i start lines l f g =
-      ap (λ (u : Trailer). equationIn n (kindAt node) (equationAt node) (constraintsFrom cert start) (t .constraints) (u .depth) true (lineAt cert (lines + 80 * i))) (ch .trailer)
+      ap (λ (u : Trailer). equationIn n (kindAt node) (equationAt node) (constraintsFrom cert start) (t .constraints) (u .depth) Opening (lineAt cert (lines + 80 * i))) (ch .trailer)
       ∙ equation-in _ i start lines (part-base cert (propertyOf node) i (rw (ch .trailer) at l)) f g
 
-  pub equation-step : (i start lines : ℕ) → t .base ≤ i → start ≡ startOf cert → lines ≡ linesStart cert → equationIn n (kindAt node) (equationAt node) (constraintsFrom cert start) (t .constraints) (t .depth + 1) false (lineAt cert (lines + 80 * i)) ≡ equationPasses node cert i
+  pub equation-step : (i start lines : ℕ) → t .base ≤ i → start ≡ startOf cert → lines ≡ linesStart cert → equationIn n (kindAt node) (equationAt node) (constraintsFrom cert start) (t .constraints) (t .depth + 1) Unsure (lineAt cert (lines + 80 * i)) ≡ equationPasses node cert i
   equation-step i start lines l f g =
-      ap (λ (u : Trailer). equationIn n (kindAt node) (equationAt node) (constraintsFrom cert start) (t .constraints) (u .depth + 1) false (lineAt cert (lines + 80 * i))) (ch .trailer)
+      ap (λ (u : Trailer). equationIn n (kindAt node) (equationAt node) (constraintsFrom cert start) (t .constraints) (u .depth + 1) Unsure (lineAt cert (lines + 80 * i))) (ch .trailer)
       ∙ equation-in _ i start lines (part-step cert (propertyOf node) i (rw (ch .trailer) at l)) f g

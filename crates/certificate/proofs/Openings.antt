@@ -1,25 +1,26 @@
 -- What rules 1 to 8 and 11 to 15 leave, put together for the checks of lines.
 -- Assumes nothing.
-use mathlib.Core.Path.{_≡_, sym, _∙_, ap, fun-ext}
+use mathlib.Core.Path.{_≡_, refl, sym, _∙_, ap, fun-ext}
 use mathlib.Core.List.{List}
 use Prim.Native.Nat.{ℕ, _≤_, _+_, _*_}
 use native.Mathlib.Omega.{arith}
 use lib.ListN.{length}
-use Rattle.answers.specs.declared.Found.the-variants.{Nothing}
-use Rattle.answers.specs.Answer.{accepted, NodeValues}
+use Rattle.answers.specs.declared.Place.{Place}
+use Rattle.answers.specs.Answer.{Answer, accepted, refused, NodeValues}
 use Rattle.answers.specs.Checks.{lowest}
-use Rattle.answers.proofs.Lowest.{all}
 use Rattle.node.specs.Layout.{recordsOf}
 use Rattle.node.specs.Verdict.{verdictOf as nodeVerdict}
-use Rattle.node.proofs.FileRules.{Sizes, sizes}
+use Rattle.node.proofs.FileRules.{sizes}
 use Rattle.node.proofs.Outcomes.{accepted-keeps, accepted-values}
 use Rattle.constraints.specs.declared.layout.Trailer.{Trailer}
 use Rattle.constraints.specs.Layout.{trailerOf, sizeOf, startOf}
 use Rattle.constraints.specs.Rules.{Sorts, sortsOf, constraintPasses as passesFrom}
 use Rattle.rules.specs.Sorts.{sortsBelow}
-use Rattle.rules.specs.Verdict.{sortsOfNode, constraintPasses}
-use Rattle.rules.proofs.FileFacts.{FileFacts, file-facts}
-use Rattle.certificate.specs.Checking.{NodePassed, FilePassed, Checking}
+use Rattle.rules.specs.Verdict.{sortsOfNode, constraintPasses, fileVerdict}
+use Rattle.rules.proofs.FileFacts.{FileFacts, file-facts, file-passed}
+use Rattle.rules.proofs.Outcomes.{file-opens}
+use Rattle.certificate.specs.declared.reading.Opened.the-variants.{Passed, Refused}
+use Rattle.certificate.specs.Checking.{NodePassed, FilePassed, Checking, openingOf}
 
 -- an accepted node file, from the values that its answer carries
 pub node-passed : (node : List ℕ) (n property : ℕ) → nodeVerdict node ≡ accepted (record { streams = n; property = property }) → NodePassed node n property
@@ -31,15 +32,18 @@ node-passed node n property e =
       node-rules = accepted-keeps node e;
     }
 
-module _ (node cert : List ℕ) (t : Trailer) (n property : ℕ) (of-node : NodePassed node n property) (of-file : FilePassed cert t) where
-  node-sizes : Sizes node
-  node-sizes = sizes node (of-node .node-rules .file)
+pub counted-streams : (node : List ℕ) (n property : ℕ) → NodePassed node n property → (n ≤ 64) × (n ≡ recordsOf node)
+counted-streams node n property passed =
+    let small = sizes node (passed .node-rules .file) in
+    (rw (passed .streams) (small .few), passed .streams ∙ sym (small .records))
 
+-- the sorts that were read are the node's
+pub node-sorts : (node sorts : List ℕ) (n property : ℕ) → NodePassed node n property → ((x : ℕ) → sortsOf sorts x ≡ sortsBelow node n x) → (x : ℕ) → sortsOf sorts x ≡ sortsOfNode node x
+node-sorts node sorts n property passed sorted x = rw (← (passed .streams)) (sorted x)
+
+module _ (cert : List ℕ) (t : Trailer) (of-file : FilePassed cert t) where
   facts : FileFacts cert
   facts = file-facts cert (of-file .file)
-
-  pub counted-streams : (n ≤ 64) × (n ≡ recordsOf node)
-  counted-streams = (rw (of-node .streams) (node-sizes .few), of-node .streams ∙ sym (node-sizes .records))
 
   pub start-room : (t ≡ trailerOf cert) × (sizeOf (trailerOf cert) ≤ length cert)
   start-room = (of-file .trailer, facts .room)
@@ -47,30 +51,35 @@ module _ (node cert : List ℕ) (t : Trailer) (n property : ℕ) (of-node : Node
   pub constraints-room : (start : ℕ) → start ≡ startOf cert → start + 80 * t .constraints ≤ length cert
   constraints-room start e = rw (e, of-file .trailer) (omega (arith, facts .room))
 
-  module _ (sorts : List ℕ) (sorted : (x : ℕ) → sortsOf sorts x ≡ sortsBelow node n x) where
-    node-sorts : (x : ℕ) → sortsOf sorts x ≡ sortsOfNode node x
-    node-sorts x = rw (← (of-node .streams)) (sorted x)
+  -- the search over the constraints is the definition's
+  pub constraints-searched : (node sorts : List ℕ) → ((x : ℕ) → sortsOf sorts x ≡ sortsOfNode node x) → (start : ℕ) → start ≡ startOf cert → lowest (constraintPasses node cert) (trailerOf cert .constraints) ≡ lowest (passesFrom (sortsOf sorts) (t .depth) cert start) (t .constraints)
+  constraints-searched node sorts sorted start e =
+      rw (e, of-file .trailer) (ap (λ (f : Sorts). lowest (passesFrom f (trailerOf cert .depth) cert (startOf cert)) (trailerOf cert .constraints)) (sym (fun-ext sorted)))
 
-    -- the search over the constraints is the definition's
-    pub constraints-searched : (start : ℕ) → start ≡ startOf cert → lowest (constraintPasses node cert) (trailerOf cert .constraints) ≡ lowest (passesFrom (sortsOf sorts) (t .depth) cert start) (t .constraints)
-    constraints-searched start e =
-        rw (e, of-file .trailer) (ap (λ (f : Sorts). lowest (passesFrom f (trailerOf cert .depth) cert (startOf cert)) (trailerOf cert .constraints)) (sym (fun-ext node-sorts)))
+-- what an opening says that has passed
+opened : (t u : Trailer) (a : Answer (Unit {0})) → Passed t ≡ openingOf u a → (a ≡ accepted tt) × (t ≡ u)
+opened t u (accepted v) e = (refl, cc)
+opened t u (refused number place) e = let z : _≡_ {A = ℕ} 0 1 = cc in absurd (omega arith)
 
-    pub checking : lowest (constraintPasses node cert) (trailerOf cert .constraints) ≡ Nothing → Checking node cert sorts t n property
-    checking e =
-        record {
-          trailer = of-file .trailer;
-          streams = of-node .streams;
-          property-is = of-node .property-is;
-          node-rules = of-node .node-rules;
-          sorted = node-sorts;
-          ready =
-              record {
-                room = facts .room;
-                most = facts .most;
-                least = facts .some;
-                deep = facts .deep;
-                few = facts .few;
-                constraints = all _ _ e;
-              };
-        }
+-- .. and one that has not
+pub unopened : (t : Trailer) (a : Answer (Unit {0})) (number : ℕ) (place : Place) → Refused number place ≡ openingOf t a → a ≡ refused number place
+unopened t (accepted v) number place e = let z : _≡_ {A = ℕ} 0 1 = cc in absurd (omega arith)
+unopened t (refused m at) number place e = cc
+
+module _ (node cert sorts : List ℕ) (t : Trailer) (n property : ℕ) (of-node : NodePassed node n property) (sorted : (x : ℕ) → sortsOf sorts x ≡ sortsOfNode node x) (e : Passed t ≡ openingOf (trailerOf cert) (fileVerdict node cert)) where
+  pub file-accepted : fileVerdict node cert ≡ accepted tt
+  file-accepted = opened t (trailerOf cert) (fileVerdict node cert) e .0
+
+  pub checking : Checking node cert sorts t n property
+  checking =
+      let b = file-opens node cert (of-node .node-rules) file-accepted in
+      let f = file-facts cert (file-passed cert (b .file .size) (b .file .fixed) (b .file .counts) (b .file .distance)) in
+      record {
+        trailer = opened t (trailerOf cert) (fileVerdict node cert) e .1;
+        streams = of-node .streams;
+        property-is = of-node .property-is;
+        node-rules = of-node .node-rules;
+        sorted = sorted;
+        ready =
+            record { room = f .room; most = f .most; least = f .some; deep = f .deep; few = f .few; constraints = b .constraints };
+      }

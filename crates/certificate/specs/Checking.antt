@@ -9,8 +9,11 @@ use Rattle.constraints.specs.declared.layout.Trailer.{Trailer}
 use Rattle.constraints.specs.Layout.{trailerOf, startOf}
 use Rattle.constraints.specs.Ready.{Ready}
 use Rattle.constraints.specs.Rules.{sortsOf}
+use Rattle.answers.specs.Answer.{Answer, accepted, refused}
 use Rattle.rules.specs.Note.{fileOk}
 use Rattle.rules.specs.Verdict.{sortsOfNode}
+use Rattle.certificate.specs.declared.reading.Opened.{Opened}
+use Rattle.certificate.specs.declared.reading.Opened.the-variants.{Passed, Refused}
 
 -- where line 0 stands
 abbrev pub linesStart : List ℕ → ℕ
@@ -34,3 +37,8 @@ pub record Checking (node cert sorts : List ℕ) (t : Trailer) (n property : ℕ
   pub node-rules : NodeRules node
   pub sorted : (x : ℕ) → sortsOf sorts x ≡ sortsOfNode node x
   pub ready : Ready (sortsOfNode node) cert
+
+-- the opening of a certificate: its trailer where 11 to 15 pass, else their refusal
+abbrev pub openingOf : Trailer → Answer (Unit {0}) → Opened
+openingOf t (accepted passed) = Passed t
+openingOf t (refused number place) = Refused number place

@@ -1,52 +1,45 @@
 // The checks of lines and parts, put together.
-use crate::in_turn::first_bad;
+use crate::lines::line_fault;
 use crate::lines::lines_start;
-use crate::lines::shape_passes;
 use crate::parts::has_empty;
 use crate::refusals;
 use answers::CertificateVerdict;
-use answers::Found;
 use answers::Place;
 use constraints::Trailer;
-use constraints::line_head;
-ghost use Prim.Native.Nat.{_+_, _<_};
 ghost use mathlib.Core.Path.{_≡_};
 ghost use Rattle.answers.specs.Answer.{certificateAnswer};
-ghost use Rattle.rules.specs.Verdict.{lineNumber, linesVerdict};
+ghost use Rattle.rules.specs.Verdict.{partsVerdict, linesVerdict};
 ghost use Rattle.certificate.specs.Checking.{Checking};
 
-// The number of the rule that line i breaks, if it breaks one: 16 before its kind's.
-fn broken_rule(
+// Rule 21, after all lines.
+fn parts_verdict(
     node: &[u8],
     cert: &[u8],
     sorts: &[u8],
     t: Trailer,
     n: usize,
     property: u16,
-    i: usize,
-) -> usize
+) -> CertificateVerdict
     requires { ⌜ Checking (now node) (now cert) (now sorts) t n property ⌝ }
-    requires { ⌜ i < t .base + t .step ⌝ }
-    ensures { λ r. ⌜ r ≡ lineNumber (now (node .entry)) (now (cert .entry)) i ⌝ }
+    ensures { λ r. ⌜ certificateAnswer r ≡ partsVerdict (now (node .entry)) (now (cert .entry)) ⌝ }
 {
-    if !shape_passes(node, cert, sorts, t, n, property, i) {
-        return refusals::SHAPE;
+    let lines = lines_start(cert, t);
+    let base = t.base as usize;
+    let step = t.step as usize;
+    if !has_empty(cert, lines, 0, base) {
+        return CertificateVerdict::Refused(refusals::NO_EMPTY_LINE, Place::Base);
     }
-    let at = lines_start(cert, t) + 80 * i;
-    let kind = line_head(cert, at).kind;
-    if kind == 1 {
-        return refusals::EQUATION;
+    if !has_empty(cert, lines, base, step) {
+        return CertificateVerdict::Refused(refusals::NO_EMPTY_LINE, Place::Step);
     }
-    if kind == 2 {
-        return refusals::PROPERTY;
+    CertificateVerdict::Accepted {
+        depth: t.depth as usize,
+        base,
+        step,
     }
-    if kind == 3 {
-        return refusals::JOIN;
-    }
-    refusals::ARITHMETIC
 }
 
-// Rules 16 to 21.
+// Rules 16 to 21: lines taken one at a time. One array of sums serves all, since each line that passes leaves it at zero.
 pub fn lines_verdict(
     node: &[u8],
     cert: &[u8],
@@ -58,19 +51,15 @@ pub fn lines_verdict(
     requires { ⌜ Checking (now node) (now cert) (now sorts) t n property ⌝ }
     ensures { λ r. ⌜ certificateAnswer r ≡ linesVerdict (now (node .entry)) (now (cert .entry)) ⌝ }
 {
-    if let Found::At(i) = first_bad(node, cert, sorts, t, n, property) {
-        let number = broken_rule(node, cert, sorts, t, n, property, i);
-        return CertificateVerdict::Refused(number, Place::Line(i));
+    let lines = (t.base as usize) + (t.step as usize);
+    let mut sums = [0i64; 576];
+    let mut i = 0;
+    while i < lines {
+        let fault = line_fault(&mut sums, node, cert, sorts, t, n, property, i);
+        if fault != 0 {
+            return CertificateVerdict::Refused(fault, Place::Line(i));
+        }
+        i += 1;
     }
-    let lines = lines_start(cert, t);
-    let base = t.base as usize;
-    let step = t.step as usize;
-    if !has_empty(cert, lines, 0, base) {
-        return CertificateVerdict::Refused(refusals::NO_EMPTY_LINE, Place::Base);
-    }
-    if !has_empty(cert, lines, base, step) {
-        return CertificateVerdict::Refused(refusals::NO_EMPTY_LINE, Place::Step);
-    }
-    let depth = t.depth as usize;
-    CertificateVerdict::Accepted { depth, base, step }
+    parts_verdict(node, cert, sorts, t, n, property)
 }

@@ -44,18 +44,11 @@ fn is_clause(cert: &[u8], start: usize, m: usize, at: usize, c: Clause) -> bool
     matches(cert, start, m, third, literal_at(cert, at, 2))
 }
 
-// Where offset q of a part stands.
-fn place_of(is_base: bool, q: u16) -> Place
-    ensures { λ r. ⌜ r ≡ placeOf «is_base» q ⌝ }
+// Where offset q of a part stands, whose first offset stands at `opening`.
+fn place_of(opening: Place, q: u16) -> Place
+    ensures { λ r. ⌜ r ≡ placeOf opening q ⌝ }
 {
-    if q != 0 {
-        return Place::Inner;
-    }
-    if is_base {
-        Place::Opening
-    } else {
-        Place::Unsure
-    }
+    if q == 0 { opening } else { Place::Inner }
 }
 
 // Rule 17, of the line at an offset: clause r of stream p at offset q, which is below `offsets`.
@@ -67,11 +60,11 @@ pub fn equation_ok(
     at: usize,
     n: usize,
     offsets: usize,
-    is_base: bool,
+    opening: Place,
 ) -> bool
     requires { ⌜ Readable (now cert) start m × (at + 80 ≤ length (now cert)) ⌝ }
     requires { ⌜ ConstantsLimited (now node) n × (offsets ≤ 9) × (n ≡ recordsOf (now node)) ⌝ }
-    ensures { λ r. ⌜ r ≡ equationIn n (kindAt (now (node .entry))) (equationAt (now (node .entry))) (constraintsFrom (now (cert .entry)) start) m offsets «is_base» (lineAt (now (cert .entry)) at) ⌝ }
+    ensures { λ r. ⌜ r ≡ equationIn n (kindAt (now (node .entry))) (equationAt (now (node .entry))) (constraintsFrom (now (cert .entry)) start) m offsets opening (lineAt (now (cert .entry)) at) ⌝ }
 {
     let h = line_head(cert, at);
     let p = h.p as usize;
@@ -79,7 +72,7 @@ pub fn equation_ok(
     if !((p < n) & (q < offsets)) {
         return false;
     }
-    let place = place_of(is_base, h.q);
+    let place = place_of(opening, h.q);
     match clause_of(
         kind_among(node, n, p),
         equation_among(node, n, p),

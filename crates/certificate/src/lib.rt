@@ -2,7 +2,6 @@
 mod checker;
 mod equations;
 mod file_note;
-mod in_turn;
 mod joins;
 mod lines;
 mod parts;

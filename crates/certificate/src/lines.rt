@@ -3,19 +3,21 @@ use crate::equations::equation_ok;
 use crate::joins::join_ok;
 use crate::property::base_property_ok;
 use crate::property::step_property_ok;
+use crate::refusals;
 use crate::shape::shape_ok;
 use arithmetic::arithmetic_ok;
 use constraints::Trailer;
 use constraints::line_head;
-ghost use Prim.Native.Nat.{_+_, _*_, _<_, _≤_};
+use rules::Place;
+ghost use Prim.Native.Nat.{ℕ, _+_, _*_, _<_, _≤_};
 ghost use mathlib.Core.Path.{_≡_};
-ghost use mathlib.Core.Bool.{true};
+ghost use mathlib.Core.Bool.{true, cond};
 ghost use lib.IntN.{pos};
 ghost use lib.ListN.{length, replicate};
 ghost use Rattle.constraints.specs.Layout.{trailerOf, sizeOf, startOf, constraintOf, lineOf};
 ghost use Rattle.rules.specs.Arithmetic.{arithmeticOk};
 ghost use Rattle.rules.specs.Joins.{joinOk};
-ghost use Rattle.rules.specs.Verdict.{shapePasses, equationPasses, kindPasses, partOf, firstLine};
+ghost use Rattle.rules.specs.Verdict.{shapePasses, equationPasses, ownFault, lineFault, linePasses, partOf, firstLine};
 ghost use Rattle.certificate.specs.Checking.{Checking, linesStart};
 ghost use Rattle.certificate.specs.Ready.{LinesReady};
 
@@ -40,7 +42,7 @@ pub fn lines_start(cert: &[u8], t: Trailer) -> usize
 }
 
 // Rule 16, of line i.
-pub fn shape_passes(
+fn shape_passes(
     node: &[u8],
     cert: &[u8],
     sorts: &[u8],
@@ -86,7 +88,7 @@ fn join_passes(cert: &[u8], t: Trailer, i: usize) -> bool
     }
 }
 
-// Rule 20, of line i. The sums are lent at zero, and a line that passes leaves them so; here as below.
+// Rule 20, of line i. The sums are lent at zero, and a line that passes leaves them so.
 fn arithmetic_passes(
     sums: &mut [i64],
     node: &[u8],
@@ -127,14 +129,21 @@ fn equation_passes(
     let m = t.constraints as usize;
     let depth = t.depth as usize;
     if i < (t.base as usize) {
-        equation_ok(node, cert, start, m, at, n, depth, true)
+        equation_ok(node, cert, start, m, at, n, depth, Place::Opening)
     } else {
-        equation_ok(node, cert, start, m, at, n, depth + 1, false)
+        equation_ok(node, cert, start, m, at, n, depth + 1, Place::Unsure)
     }
 }
 
-// The rule of line i's kind, where rule 16 has passed it and the lines before it.
-pub fn kind_passes(
+// A rule's number where its test fails, else 0.
+fn unless(ok: bool, number: usize) -> usize
+    ensures { λ r. ⌜ r ≡ cond «ok» 0 number ⌝ }
+{
+    if ok { 0 } else { number }
+}
+
+// The number of the rule of line i's kind, where the line breaks it, else 0; rule 16 has passed it and the lines before it.
+fn own_fault(
     sums: &mut [i64],
     node: &[u8],
     cert: &[u8],
@@ -143,24 +152,52 @@ pub fn kind_passes(
     n: usize,
     property: u16,
     i: usize,
-) -> bool
+) -> usize
     requires { ⌜ Checking (now node) (now cert) (now sorts) t n property ⌝ }
     requires { ⌜ (i < t .base + t .step) × (shapePasses (now node) (now cert) i ≡ true) ⌝ }
     requires { ⌜ LinesReady (now cert) (linesStart (now cert)) i ⌝ }
     requires { ⌜ now sums ≡ replicate 576 (pos 0) ⌝ }
-    ensures answer { λ r. ⌜ r ≡ kindPasses (now (node .entry)) (now (cert .entry)) i ⌝ }
-    ensures cleared { λ r. ⌜ (r ≡ true → now (sums .exit) ≡ replicate 576 (pos 0)) ⌝ }
+    ensures answer { λ r. ⌜ r ≡ ownFault (now (node .entry)) (now (cert .entry)) i ⌝ }
+    ensures cleared { λ r. ⌜ (r ≡ 0 → now (sums .exit) ≡ replicate 576 (pos 0)) ⌝ }
 {
     let at = lines_start(cert, t) + 80 * i;
     let kind = line_head(cert, at).kind;
     if kind == 1 {
-        return equation_passes(node, cert, sorts, t, n, property, i);
+        let ok = equation_passes(node, cert, sorts, t, n, property, i);
+        return unless(ok, refusals::EQUATION);
     }
     if kind == 2 {
-        return property_passes(cert, t, property, i);
+        let ok = property_passes(cert, t, property, i);
+        return unless(ok, refusals::PROPERTY);
     }
     if kind == 3 {
-        return join_passes(cert, t, i);
+        let ok = join_passes(cert, t, i);
+        return unless(ok, refusals::JOIN);
     }
-    arithmetic_passes(sums, node, cert, sorts, t, n, property, i)
+    let ok = arithmetic_passes(sums, node, cert, sorts, t, n, property, i);
+    unless(ok, refusals::ARITHMETIC)
+}
+
+// The number of the first rule that line i breaks, 16 before its kind's, where the lines before it break none; 0 where it breaks
+// none either. The sums are lent at zero, and such a line leaves them so.
+pub fn line_fault(
+    sums: &mut [i64],
+    node: &[u8],
+    cert: &[u8],
+    sorts: &[u8],
+    t: Trailer,
+    n: usize,
+    property: u16,
+    i: usize,
+) -> usize
+    requires { ⌜ Checking (now node) (now cert) (now sorts) t n property ⌝ }
+    requires { ⌜ (i < t .base + t .step) × ((j : ℕ) → j < i → linePasses (now node) (now cert) j ≡ true) ⌝ }
+    requires { ⌜ now sums ≡ replicate 576 (pos 0) ⌝ }
+    ensures answer { λ r. ⌜ r ≡ lineFault (now (node .entry)) (now (cert .entry)) i ⌝ }
+    ensures cleared { λ r. ⌜ (r ≡ 0 → now (sums .exit) ≡ replicate 576 (pos 0)) ⌝ }
+{
+    if !shape_passes(node, cert, sorts, t, n, property, i) {
+        return refusals::SHAPE;
+    }
+    own_fault(sums, node, cert, sorts, t, n, property, i)
 }

@@ -14,51 +14,66 @@ use constraints::distance_ok;
 use constraints::first_bad;
 use constraints::fixed_ok;
 use constraints::trailer_of;
+ghost use Prim.Native.Nat.{ℕ};
 ghost use mathlib.Core.Path.{_≡_};
 ghost use Rattle.answers.specs.Answer.{certificateAnswer};
-ghost use Rattle.rules.specs.Verdict.{constraintsVerdict, certificateVerdict, verdictOf};
-ghost use Rattle.certificate.specs.Checking.{NodePassed, FilePassed};
+ghost use Rattle.constraints.specs.Layout.{trailerOf};
+ghost use Rattle.constraints.specs.Rules.{sortsOf};
+ghost use Rattle.rules.specs.Verdict.{sortsOfNode, constraintsVerdict, fileVerdict, linesVerdict, andThen, verdictOf};
+ghost use Rattle.certificate.specs.Checking.{NodePassed, FilePassed, openingOf};
 
-// Rules 15 to 21, where 1 to 8 and 11 to 14 have passed.
-fn constraints_verdict(
-    node: &[u8],
-    cert: &[u8],
-    t: Trailer,
-    n: usize,
-    property: u16,
-) -> CertificateVerdict
-    requires { ⌜ NodePassed (now node) n property × FilePassed (now cert) t ⌝ }
-    ensures { λ r. ⌜ certificateAnswer r ≡ constraintsVerdict (now (node .entry)) (now (cert .entry)) ⌝ }
+// What the checks of the certificate file and its constraints give: the trailer, or a refusal.
+pub enum Opened {
+    Passed(Trailer),
+    Refused(usize, Place),
+}
+
+// Rule 15, where 11 to 14 have passed.
+fn constraints_opening(node: &[u8], cert: &[u8], sorts: &[u8], t: Trailer) -> Opened
+    requires { ⌜ FilePassed (now cert) t ⌝ }
+    requires { ⌜ ((x : ℕ) → sortsOf (now sorts) x ≡ sortsOfNode (now node) x) ⌝ }
+    ensures { λ r. ⌜ r ≡ openingOf (trailerOf (now (cert .entry))) (constraintsVerdict (now (node .entry)) (now (cert .entry))) ⌝ }
 {
-    let sorts = sorts_of(node, n);
     let start = start_of(cert, t);
     let m = t.constraints as usize;
-    if let Found::At(i) = first_bad(cert, start, m, &sorts, t.depth) {
-        return CertificateVerdict::Refused(refusals::CONSTRAINT, Place::Constraint(i));
+    if let Found::At(i) = first_bad(cert, start, m, sorts, t.depth) {
+        return Opened::Refused(refusals::CONSTRAINT, Place::Constraint(i));
     }
-    lines_verdict(node, cert, &sorts, t, n, property)
+    Opened::Passed(t)
+}
+
+// Rules 11 to 15.
+fn opening(node: &[u8], cert: &[u8], sorts: &[u8]) -> Opened
+    requires { ⌜ ((x : ℕ) → sortsOf (now sorts) x ≡ sortsOfNode (now node) x) ⌝ }
+    ensures { λ r. ⌜ r ≡ openingOf (trailerOf (now (cert .entry))) (fileVerdict (now (node .entry)) (now (cert .entry))) ⌝ }
+{
+    let size = cert.len();
+    if !length_ok(size) {
+        return Opened::Refused(refusals::LENGTH, Place::File);
+    }
+    let t = trailer_of(cert);
+    if !fixed_ok(t) {
+        return Opened::Refused(refusals::FIXED_BYTES, Place::File);
+    }
+    if !counts_ok(t) {
+        return Opened::Refused(refusals::COUNTS, Place::File);
+    }
+    if !distance_ok(t, size) {
+        return Opened::Refused(refusals::DISTANCE, Place::File);
+    }
+    constraints_opening(node, cert, sorts, t)
 }
 
 // Rules 11 to 21, where 1 to 8 have passed.
 fn certificate_verdict(node: &[u8], cert: &[u8], n: usize, property: u16) -> CertificateVerdict
     requires { ⌜ NodePassed (now node) n property ⌝ }
-    ensures { λ r. ⌜ certificateAnswer r ≡ certificateVerdict (now (node .entry)) (now (cert .entry)) ⌝ }
+    ensures { λ r. ⌜ certificateAnswer r ≡ andThen (fileVerdict (now (node .entry)) (now (cert .entry))) (linesVerdict (now (node .entry)) (now (cert .entry))) ⌝ }
 {
-    let size = cert.len();
-    if !length_ok(size) {
-        return CertificateVerdict::Refused(refusals::LENGTH, Place::File);
+    let sorts = sorts_of(node, n);
+    match opening(node, cert, &sorts) {
+        Opened::Passed(t) => lines_verdict(node, cert, &sorts, t, n, property),
+        Opened::Refused(number, place) => CertificateVerdict::Refused(number, place),
     }
-    let t = trailer_of(cert);
-    if !fixed_ok(t) {
-        return CertificateVerdict::Refused(refusals::FIXED_BYTES, Place::File);
-    }
-    if !counts_ok(t) {
-        return CertificateVerdict::Refused(refusals::COUNTS, Place::File);
-    }
-    if !distance_ok(t, size) {
-        return CertificateVerdict::Refused(refusals::DISTANCE, Place::File);
-    }
-    constraints_verdict(node, cert, t, n, property)
 }
 
 // The verdict on a node file and a certificate.

@@ -1,16 +1,14 @@
--- A literal by its sign and atom, and when it says a constraint.
+-- When a literal says a constraint.
 -- Assumes nothing.
-use mathlib.Core.Path.{_≡_, refl, sym}
-use mathlib.Core.Bool.{Bool, true, false, not, _&&_, and-false}
-use Prim.Native.Nat.{ℕ, _+_, _*_, _/_, _%_, _≤_, _<_}
-use native.Mathlib.Omega.{arith}
-use lib.Dec.{eqb}
-use borrow.Author.Tests.{eqb-true, eqb-false, eq-eqb, ne-eqb, le-leb, lt-leb, lt-ltb, le-ltb}
+use mathlib.Core.Path.{_≡_}
+use mathlib.Core.Bool.{true, false, and-false}
+use Prim.Native.Nat.{ℕ, _≤_, _<_}
+use borrow.Author.Tests.{le-leb, lt-leb, lt-ltb, le-ltb}
 use Rattle.constraints.specs.Layout.{Constraint}
 use Rattle.constraints.specs.Linear.{sameContent, boundedOf as ofConstraint}
 use Rattle.rules.specs.declared.pattern.Linear.{Linear}
 use Rattle.rules.specs.Clauses.{boundedOf}
-use Rattle.literals.specs.Literals.{positive, negative, atomOf, isNegated, constraintNumber}
+use Rattle.literals.specs.Literals.{atomOf, isNegated, constraintNumber}
 use Rattle.rules.specs.Matching.{saysMost}
 
 module _ (constraint : ℕ → Constraint) (m : ℕ) (d : Linear) (l : ℕ) where

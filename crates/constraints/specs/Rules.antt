@@ -1,4 +1,4 @@
--- The conditions 11 to 15 of "Where each refusal is met", each as the test that a file passes.
+-- The conditions 12 to 15 of "Where each refusal is met", each as the test that a file passes. 11 is tested as 1 is (node/specs/Rules).
 use Prim.Native.Nat.{ℕ, zero, _+_, _-_, _*_}
 use mathlib.Core.List.{List}
 use mathlib.Core.Bool.{Bool, cond, not, _&&_, _||_}

@@ -1,4 +1,4 @@
-// Where the fields of a certificate file stand. No other file knows the place of a field in its block.
+// Where the fields of a trailer, of a constraint and of a line stand.
 use crate::bytes::u16_at;
 use crate::bytes::u32_at;
 use crate::bytes::u64_at;

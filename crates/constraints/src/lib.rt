@@ -1,4 +1,4 @@
-// Certificate files: where their fields stand, rules 11 to 15, and constraints as linear forms.
+// Certificate files: where their fields stand, rules 12 to 15, and constraints as linear forms.
 mod bytes;
 mod layout;
 mod rules;

@@ -31,7 +31,7 @@ module _ (s : List ℕ) where
       go (accepted node) = omega arith
       go (refused number place) = zero-le
 
-  -- "the note and the record area together are the file"
+  -- the note and the record area together are the file
   pub note-and-rest : take (noteLength s) s ++ withoutNote s ≡ s
   note-and-rest = take-append-drop (noteLength s) s
 

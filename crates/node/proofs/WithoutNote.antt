@@ -117,7 +117,7 @@ module _ (s : List ℕ) {node : NodeValues} (e : verdictOf s ≡ accepted node) 
   pub without-note-record : (i : ℕ) → recordOf (withoutNote s) i ≡ recordOf s i
   without-note-record = record-is s (accepted-keeps s e) (noteLength s) note-left
 
--- "accepted files of equal record area and trailer decode alike whatever their notes"
+-- accepted files of equal record area and trailer decode alike whatever their notes
 module _ (s t : List ℕ) {node other : NodeValues} (e : verdictOf s ≡ accepted node) (f : verdictOf t ≡ accepted other) (same : withoutNote s ≡ withoutNote t) where
   pub notes-same-answer : verdictOf s ≡ verdictOf t
   notes-same-answer =

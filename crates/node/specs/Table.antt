@@ -1,5 +1,4 @@
--- "A record is one of fourteen operators, each with its own operands": "which operands each operator reads stands in a
--- fixed table".
+-- "A record is one of fourteen operators, each with its own operands". "Which operands each operator reads stands in a fixed table."
 use Prim.Native.Nat.{ℕ}
 use mathlib.Core.List.{List, [], _∷_}
 use mathlib.Core.Bool.{Bool, true, false}

@@ -1,4 +1,4 @@
-// Where the fields of a node file stand. No other file knows the place of a field in its block.
+// Where the fields of a trailer and of a record stand.
 use crate::bytes::u16_at;
 use crate::bytes::u32_at;
 use fields::i32_of;

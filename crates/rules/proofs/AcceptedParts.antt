@@ -57,7 +57,7 @@ module _ (node cert : List ℕ) (rules : CertificateRules node cert) where
 
   module _ (part : Window) (p : IsPart node cert part) (w : Valuation) where
     premises :
-        Solves (nodeOf node) (part .isBase) (part .offsets) w
+        Solves (nodeOf node) (part .opening) (part .offsets) w
         → ((line : Line) → part .property line ≡ true → Satisfies (constraintOf cert) w line)
         → Premises (constraintOf cert) (lineOf cert) part w
     premises solves property =
@@ -68,7 +68,7 @@ module _ (node cert : List ℕ) (rules : CertificateRules node cert) where
           equations =
               λ i l m kind.
               equation-satisfied node cert rules i (rules .equations i (listed i m) kind) w
-              (subst (λ (v : Window). Solves (nodeOf node) (v .isBase) (v .offsets) w) (sym (p .is i l m)) solves);
+              (subst (λ (v : Window). Solves (nodeOf node) (v .opening) (v .offsets) w) (sym (p .is i l m)) solves);
           properties =
               λ i l m kind.
               property (lineOf cert i)
@@ -82,7 +82,7 @@ module _ (node cert : List ℕ) (rules : CertificateRules node cert) where
         }
 
     pub part-refuted :
-        Solves (nodeOf node) (part .isBase) (part .offsets) w
+        Solves (nodeOf node) (part .opening) (part .offsets) w
         → ((line : Line) → part .property line ≡ true → Satisfies (constraintOf cert) w line)
         → ⊥
     part-refuted solves property = refuted (constraintOf cert) (lineOf cert) part w (premises solves property) (p .ends)

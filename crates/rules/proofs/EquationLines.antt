@@ -1,12 +1,12 @@
 -- Rule 17: an equation line is satisfied by every window in which the node's equations hold.
 -- Assumes nothing.
-use mathlib.Core.Path.{_≡_, refl}
+use mathlib.Core.Path.{_≡_}
 use mathlib.Core.Bool.{Bool, true, false, cond, _&&_}
 use mathlib.Core.List.{List}
 use Prim.Native.Nat.{ℕ, _-_, _≤_, _<_}
 use native.Mathlib.Omega.{arith}
-use borrow.Author.Tests.{ltb-true, eqb-true, eqb-false}
-use lib.Dec.{ltb, eqb}
+use borrow.Author.Tests.{ltb-true}
+use lib.Dec.{ltb}
 use Rattle.answers.proofs.Tests.{both-true}
 use Rattle.node.specs.Layout.{propertyOf}
 use Rattle.node.specs.Reads.{All, ReadOk, reads}
@@ -17,14 +17,15 @@ use Rattle.streams.proofs.Reading.{all-map}
 use Rattle.constraints.specs.Layout.{Constraint, Line, trailerOf, constraintOf, lineOf}
 use Rattle.constraints.specs.Linear.{variable}
 use Rattle.rules.specs.declared.pattern.Clause.{Clause}
-use Rattle.rules.specs.declared.pattern.Place.the-variants.{Inner}
+use Rattle.rules.specs.declared.pattern.Place.{Place}
+use Rattle.rules.specs.declared.pattern.Place.the-variants.{Opening, Unsure, Inner}
 use Rattle.rules.specs.Clauses.{clauses, numbered}
 use Rattle.rules.specs.Limited.{Named}
-use Rattle.rules.specs.Lines.{baseWindow, stepWindow, openingOf, placeOf, literalsAre, equationIn}
+use Rattle.rules.specs.Lines.{baseWindow, stepWindow, placeOf, literalsAre, equationIn}
 use Rattle.rules.specs.Outcome.{CertificateRules}
 use Rattle.rules.specs.Verdict.{partOf, windowOf, equationPasses}
 use Rattle.rules.specs.Satisfaction.{Valuation, Satisfies}
-use Rattle.rules.specs.Windows.{RowHolds, Solves}
+use Rattle.rules.specs.Windows.{PlaceSays, RowHolds, Solves}
 use Rattle.rules.proofs.Contradiction.{below-written}
 use Rattle.rules.proofs.CertificateFacts.{certificate-sizes, constraint-limited}
 use Rattle.rules.proofs.ClauseForms.{AllTrue}
@@ -32,42 +33,36 @@ use Rattle.rules.proofs.ClauseLines.{numbered-satisfied}
 use Rattle.rules.proofs.ClausesHold.{PastAt, clauses-true}
 use Rattle.rules.proofs.ClausesNamed.{ClauseBelow, clauses-below}
 
-module _ (node : Node) (formed : WellFormedNode node) (few : node .streams ≤ 64) (isBase : Bool) where
+module _ (node : Node) (formed : WellFormedNode node) (few : node .streams ≤ 64) (opening : Place) where
   -- ---- stream p at offset q
 
   abbrev clausesAt : (p q : ℕ) → List Clause
   clausesAt p q =
-      clauses (node .kinds p) (node .equations p) (placeOf isBase q) (variable q) (variable (q - 1)) (variable q p)
+      clauses (node .kinds p) (node .equations p) (placeOf opening q) (variable q) (variable (q - 1)) (variable q p)
 
   module _ (p q : ℕ) (l : p < node .streams) where
     -- what the place of the offset says
-    past-at : (w : Valuation) (row : RowHolds node isBase w q p) → PastAt (placeOf isBase q) (row .first) (row .past) w (variable (q - 1)) (node .equations p)
-    past-at w row = go (eqb q 0) refl
+    past-at : (w : Valuation) (row : RowHolds node opening w q p) → PastAt (placeOf opening q) (row .first) (row .past) w (variable (q - 1)) (node .equations p)
+    past-at w row = go (placeOf opening q) (row .place)
       where
-        begins : (b : Bool) → isBase ≡ b → q ≡ 0 → PastAt (openingOf b) (row .first) (row .past) w (variable (q - 1)) (node .equations p)
-        begins true e f = row .opens f e
-        begins false e f = tt
-
-        inner : 1 ≤ q → PastAt Inner (row .first) (row .past) w (variable (q - 1)) (node .equations p)
-        inner some = (
-          row .later some,
+        go : (at : Place) → PlaceSays at (node .streams) (row .first) (row .past) (λ x. w (variable (q - 1) x)) → PastAt at (row .first) (row .past) w (variable (q - 1)) (node .equations p)
+        go Opening e = e
+        go Unsure e = tt
+        go Inner e = (
+          e .0,
           all-map {P = ReadOk (node .streams) (node .kinds) p} {Q = λ r. row .past (r .stream) ≡ w (variable (q - 1) (r .stream))}
-              (λ r ok. row .before some (r .stream) (ok .below)) (reads (node .equations p)) (formed .operands p l),
+              (λ r ok. e .1 (r .stream) (ok .below)) (reads (node .equations p)) (formed .operands p l),
         )
 
-        go : (t : Bool) → eqb q 0 ≡ t → PastAt (cond t (openingOf isBase) Inner) (row .first) (row .past) w (variable (q - 1)) (node .equations p)
-        go true e = begins isBase refl (eqb-true q 0 e)
-        go false e = inner (omega (arith, eqb-false q 0 e))
-
     -- its clauses are true, and of small variables
-    row-true : (w : Valuation) → RowHolds node isBase w q p → AllTrue w (clausesAt p q)
+    row-true : (w : Valuation) → RowHolds node opening w q p → AllTrue w (clausesAt p q)
     row-true w row =
-        clauses-true w (variable q) (variable (q - 1)) (variable q p) (node .kinds p) (placeOf isBase q) (row .input) (row .first)
+        clauses-true w (variable q) (variable (q - 1)) (variable q p) (node .kinds p) (placeOf opening q) (row .input) (row .first)
         (row .past) (node .equations p) (formed .constants p l) (past-at w row) (row .value)
 
     row-below : q < 9 → All (ClauseBelow 576) (clausesAt p q)
     row-below low =
-        clauses-below 576 (variable q) (variable (q - 1)) (variable q p) (omega arith) (node .kinds p) (node .equations p) (placeOf isBase q)
+        clauses-below 576 (variable q) (variable (q - 1)) (variable q p) (omega arith) (node .kinds p) (node .equations p) (placeOf opening q)
         (all-map {P = ReadOk (node .streams) (node .kinds) p}
         (λ r ok. (omega (arith, ok .below), omega (arith, ok .below))) (reads (node .equations p)) (formed .operands p l))
 
@@ -76,8 +71,8 @@ module _ (node : Node) (formed : WellFormedNode node) (few : node .streams ≤ 6
   pub equation-in-satisfied :
       (constraints : ℕ → Constraint) (m : ℕ) → ((i : ℕ) → i < m → Named (constraints i) (constraints i .head .count))
       → (offsets : ℕ) → offsets ≤ 9
-      → (line : Line) → equationIn (node .streams) (node .kinds) (node .equations) constraints m offsets isBase line ≡ true
-      → (w : Valuation) → Solves node isBase offsets w
+      → (line : Line) → equationIn (node .streams) (node .kinds) (node .equations) constraints m offsets opening line ≡ true
+      → (w : Valuation) → Solves node opening offsets w
       → Satisfies constraints w line
   unfolding equationIn
   equation-in-satisfied constraints m named offsets nine line e w solves =
@@ -102,10 +97,10 @@ offsets-few cert property i deep = go (ltb i (trailerOf cert .base))
     go false = omega arith
 
 pub equation-satisfied : (node cert : List ℕ) → CertificateRules node cert → (i : ℕ) → equationPasses node cert i ≡ true
-    → (w : Valuation) → Solves (nodeOf node) (windowOf node cert i .isBase) (windowOf node cert i .offsets) w
+    → (w : Valuation) → Solves (nodeOf node) (windowOf node cert i .opening) (windowOf node cert i .offsets) w
     → Satisfies (constraintOf cert) w (lineOf cert i)
 equation-satisfied node cert rules i e w solves =
     equation-in-satisfied (nodeOf node) (well-formed node (rules .node-rules)) (sizes node (rules .node-rules .file) .few)
-    (windowOf node cert i .isBase) (constraintOf cert) (trailerOf cert .constraints)
+    (windowOf node cert i .opening) (constraintOf cert) (trailerOf cert .constraints)
     (λ j l. constraint-limited node cert rules j l .variables) (windowOf node cert i .offsets)
     (offsets-few cert (propertyOf node) i (certificate-sizes cert (rules .file) .deep)) (lineOf cert i) e w solves

@@ -11,7 +11,7 @@ pub mod Contradiction
 pub mod EquationLines
 pub mod FileFacts
 pub mod Joins
-pub mod KindRules
+pub mod LineFaults
 pub mod LineParts
 pub mod LiteralMatches
 pub mod Literals

@@ -3,7 +3,7 @@
 -- Assumes nothing.
 use mathlib.Core.Path.{_≡_, refl, sym, _∙_, subst}
 use mathlib.Core.Logic.{_↔_}
-use mathlib.Core.Bool.{false≢true}
+use mathlib.Core.Bool.{true, false≢true}
 use mathlib.Core.List.{List}
 use Prim.Native.Nat.{ℕ, _<_}
 use Rattle.answers.specs.declared.Found.{Found}
@@ -13,13 +13,12 @@ use Rattle.answers.specs.declared.Place.the-variants.{File, Constraint as AtCon
 use Rattle.answers.specs.Answer.{Answer, accepted, refused, NodeValues, CertificateValues}
 use Rattle.answers.proofs.InARow.{by-check, by-check-all}
 use Rattle.answers.proofs.Lowest.{none, all, first}
-use Rattle.answers.proofs.Tests.{both-true}
 use Rattle.node.specs.Outcome.{NodeRules}
 use Rattle.node.specs.Verdict.{verdictOf as nodeVerdict}
 use Rattle.node.proofs.Outcomes.{accepted-keeps as node-keeps, refused-first as node-first, keeps-accepted as node-accepted}
-use Rattle.rules.specs.Outcome.{FileRules, LinesKeep, CertificateRules, BeforeLines, FirstFailure, in-node, at-11, at-12, at-13, at-14, at-15, at-line, at-21-base, at-21-step, Says}
-use Rattle.rules.specs.Verdict.{linesOf, valuesOf, shapePasses, kindPasses, linePasses, lineNumber, checkLines, linesVerdict, constraintsVerdict, certificateVerdict, afterNode, verdictOf}
-use Rattle.rules.proofs.KindRules.{KindRules, kind-rules, kind-passes}
+use Rattle.rules.specs.Outcome.{FileRules, LinesKeep, CertificateRules, BeforeLines, FirstFailure, in-node, at-11, at-12, at-13, at-14, at-15, at-21-base, at-21-step, Says}
+use Rattle.rules.specs.Verdict.{linesOf, valuesOf, shapePasses, lineFault, linePasses, checkLines, partsVerdict, linesVerdict, constraintsVerdict, fileVerdict, andThen, beforeLines, verdictOf}
+use Rattle.rules.proofs.LineFaults.{KindRules, line-kept, line-passes, line-broken}
 
 -- the lowest line at fault, or the rest
 by-lines : (P : Answer CertificateValues → Type 0) (found : Found) (number : ℕ → ℕ) (rest : Answer CertificateValues) → ((i : ℕ) → found ≡ At i → P (refused (number i) (AtLine i))) → (found ≡ Nothing → P rest) → P (checkLines found number rest)
@@ -27,60 +26,69 @@ by-lines P (At i) number rest f g = f i refl
 by-lines P Nothing number rest f g = g refl
 
 module _ (node cert : List ℕ) where
-  -- every line keeps its rules: 16, and that of its kind
-  shapes-keep : LinesKeep cert (linePasses node cert) → LinesKeep cert (shapePasses node cert)
-  shapes-keep h i l = both-true (shapePasses node cert i) (kindPasses node cert i) (h i l) .0
+  kept : LinesKeep cert (linePasses node cert) → (i : ℕ) → i < linesOf cert → (shapePasses node cert i ≡ true) × KindRules node cert i
+  kept h i l = line-kept node cert i (h i l)
 
-  kinds-keep : LinesKeep cert (linePasses node cert) → LinesKeep cert (kindPasses node cert)
-  kinds-keep h i l = both-true (shapePasses node cert i) (kindPasses node cert i) (h i l) .1
-
-  kept : LinesKeep cert (linePasses node cert) → (i : ℕ) → i < linesOf cert → KindRules node cert i
-  kept h i l = kind-rules node cert i (shapes-keep h i l) (kinds-keep h i l)
-
-  of-lines : BeforeLines node cert → Says node cert (linesVerdict node cert)
-  unfolding linesVerdict
-  of-lines b =
-      by-lines (Says node cert) _ (lineNumber node cert) _ (λ i e. at-line b (first _ _ _ e)) λ e.
-      let lines = all _ _ e in
+  of-parts : BeforeLines node cert → LinesKeep cert (linePasses node cert) → Says node cert (partsVerdict node cert)
+  unfolding partsVerdict
+  of-parts b lines =
       by-check (Says node cert) _ 21 Base _ (λ e21. at-21-base b lines e21) λ e21.
       by-check (Says node cert) _ 21 Step _ (λ e22. at-21-step b lines e21 e22) λ e22. (
         record {
           node-rules = b .node-rules;
           file = b .file;
           constraints = b .constraints;
-          shapes = shapes-keep lines;
-          equations = λ i l k. kept lines i l .equation k;
-          properties = λ i l k. kept lines i l .property k;
-          joins = λ i l k. kept lines i l .join k;
-          arithmetic = λ i l k. kept lines i l .arithmetic k;
+          shapes = λ i l. kept lines i l .0;
+          equations = λ i l k. kept lines i l .1 .equation k;
+          properties = λ i l k. kept lines i l .1 .property k;
+          joins = λ i l k. kept lines i l .1 .join k;
+          arithmetic = λ i l k. kept lines i l .1 .arithmetic k;
           base-ends = e21;
           step-ends = e22;
         },
         refl,
       )
 
-  of-constraints : NodeRules node → FileRules cert → Says node cert (constraintsVerdict node cert)
-  unfolding constraintsVerdict
-  of-constraints n f =
-      by-check-all (Says node cert) _ 15 AtConstraint _ (λ i e. at-15 n f (first _ _ _ e)) λ e.
-      of-lines (record { node-rules = n; file = f; constraints = all _ _ e })
+  of-lines : BeforeLines node cert → Says node cert (linesVerdict node cert)
+  unfolding linesVerdict
+  of-lines b =
+      by-lines (Says node cert) _ (lineFault node cert) _
+      (λ i e.
+      let at = first _ _ _ e in
+      line-broken node cert i (record { before = b; below = at .below; earlier = at .before }) (at .fails))
+      λ e. of-parts b (all _ _ e)
 
-  of-certificate : NodeRules node → Says node cert (certificateVerdict node cert)
-  unfolding certificateVerdict
-  of-certificate n =
-      by-check (Says node cert) _ 11 File _ (at-11 n) λ e1.
-      by-check (Says node cert) _ 12 File _ (at-12 n e1) λ e2.
-      by-check (Says node cert) _ 13 File _ (at-13 n e1 e2) λ e3.
-      by-check (Says node cert) _ 14 File _ (at-14 n e1 e2 e3) λ e4.
-      of-constraints n (record { size = e1; fixed = e2; counts = e3; distance = e4 })
+  -- what the answer of the checks before lines says
+  abbrev Opens : Answer (Unit {0}) → Type 0
+  Opens (accepted v) = BeforeLines node cert
+  Opens (refused number place) = FirstFailure node cert number place
 
-  after-node : (a : Answer NodeValues) → nodeVerdict node ≡ a → Says node cert (afterNode a (certificateVerdict node cert))
-  after-node (accepted v) e = of-certificate (node-keeps node e)
+  of-file : NodeRules node → Opens (fileVerdict node cert)
+  unfolding fileVerdict constraintsVerdict
+  of-file n =
+      by-check Opens _ 11 File _ (at-11 n) λ e1.
+      by-check Opens _ 12 File _ (at-12 n e1) λ e2.
+      by-check Opens _ 13 File _ (at-13 n e1 e2) λ e3.
+      by-check Opens _ 14 File _ (at-14 n e1 e2 e3) λ e4.
+      let f : FileRules cert = record { size = e1; fixed = e2; counts = e3; distance = e4 } in
+      by-check-all Opens _ 15 AtConstraint _ (λ i e. at-15 n f (first _ _ _ e)) λ e.
+      record { node-rules = n; file = f; constraints = all _ _ e }
+
+  -- what is known where no check before lines fails
+  pub file-opens : NodeRules node → {v : Unit {0}} → fileVerdict node cert ≡ accepted v → BeforeLines node cert
+  file-opens n e = subst Opens e (of-file n)
+
+  after-node : (a : Answer NodeValues) → nodeVerdict node ≡ a → Opens (andThen a (fileVerdict node cert))
+  after-node (accepted v) e = of-file (node-keeps node e)
   after-node (refused number place) e = in-node (node-first node e)
 
+  after-opening : (a : Answer (Unit {0})) → Opens a → Says node cert (andThen a (linesVerdict node cert))
+  after-opening (accepted v) b = of-lines b
+  after-opening (refused number place) f = f
+
   pub says : Says node cert (verdictOf node cert)
-  unfolding verdictOf
-  says = after-node (nodeVerdict node) refl
+  unfolding verdictOf beforeLines
+  says = after-opening (beforeLines node cert) (after-node (nodeVerdict node) refl)
 
   pub accepted-keeps : {v : CertificateValues} → verdictOf node cert ≡ accepted v → CertificateRules node cert
   accepted-keeps e = subst (Says node cert) e says .0
@@ -101,13 +109,13 @@ module _ (node cert : List ℕ) where
         join = r .joins i l;
         arithmetic = r .arithmetic i l;
       } in
-      rw (r .shapes i l) (kind-passes node cert i (r .shapes i l) rules)
+      line-passes node cert i (r .shapes i l) rules
 
   abbrev Accepts : Answer CertificateValues → Type 0
   Accepts a = a ≡ accepted (valuesOf cert)
 
   pub keeps-accepted : CertificateRules node cert → verdictOf node cert ≡ accepted (valuesOf cert)
-  unfolding verdictOf certificateVerdict constraintsVerdict linesVerdict
+  unfolding verdictOf beforeLines fileVerdict constraintsVerdict linesVerdict partsVerdict
   keeps-accepted r =
       let f = r .file in
       rw (

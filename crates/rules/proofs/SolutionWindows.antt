@@ -2,10 +2,12 @@
 -- instant on that of the step.
 -- Assumes nothing.
 use mathlib.Core.Path.{_≡_, refl, sym, _∙_, ap, ap₂, subst}
-use mathlib.Core.Bool.{Bool, true, false}
+use mathlib.Core.Bool.{Bool, true, false, cond}
 use Prim.Native.Nat.{ℕ, zero, suc, _+_, _-_, _*_, _/_, _%_, _<_, _≤_}
 use native.Mathlib.Nat.{not-suc-le-zero}
 use native.Mathlib.Omega.{arith}
+use borrow.Author.Tests.{eqb-true, eqb-false}
+use lib.Dec.{eqb}
 use lib.IntN.{ℤ}
 use Rattle.node.specs.Reads.{reads, ReadOk}
 use Rattle.streams.specs.Meaning.{meaning}
@@ -15,8 +17,11 @@ use Rattle.streams.specs.Typing.{Fits, Inputs, given}
 use Rattle.streams.specs.Values.{Values}
 use Rattle.streams.proofs.Reading.{all-map, meaning-rests, by-read}
 use Rattle.constraints.specs.Linear.{variable}
+use Rattle.rules.specs.declared.pattern.Place.{Place}
+use Rattle.rules.specs.declared.pattern.Place.the-variants.{Inner}
+use Rattle.rules.specs.Lines.{placeOf}
 use Rattle.rules.specs.Satisfaction.{Valuation}
-use Rattle.rules.specs.Windows.{windowFrom, RowHolds, Solves}
+use Rattle.rules.specs.Windows.{windowFrom, PlaceSays, RowHolds, Solves}
 
 -- a variable of the window is its stream at its instant
 pub window-at : (values : Streams) (start q x : ℕ) → x < 64 → windowFrom values start (variable q x) ≡ values (start + q) x
@@ -54,22 +59,33 @@ module _ (node : Node) (wf : WellFormedNode node) (few : node .streams ≤ 64) (
       let next : start + q ≡ suc (start + (q - 1)) = omega arith in
       ap (λ (t : ℕ). before values t x) next ∙ at-instant (q - 1) x m
 
-  row-holds : (isBase : Bool) → (isBase ≡ true → start ≡ 0) → (q s : ℕ) → s < node .streams → RowHolds node isBase window q s
-  row-holds isBase opening q s l =
+  -- an offset that stands at a place is as the place says
+  abbrev SaysAt : Place → (q : ℕ) → Type 0
+  SaysAt place q = PlaceSays place (node .streams) (isFirst (start + q)) (before values (start + q)) (at-offset (q - 1))
+
+  place-says : (opening : Place) → SaysAt opening 0 → (q : ℕ) → SaysAt (placeOf opening q) q
+  place-says opening begins q = go (eqb q 0) refl
+    where
+      go : (t : Bool) → eqb q 0 ≡ t → SaysAt (cond t opening Inner) q
+      go true e = subst (SaysAt opening) (sym (eqb-true q 0 e)) begins
+      go false e =
+          let some : 1 ≤ q = omega (arith, eqb-false q 0 e) in
+          (not-first (start + q) (omega arith), past-in-window q some)
+
+  row-holds : (opening : Place) → SaysAt opening 0 → (q s : ℕ) → s < node .streams → RowHolds node opening window q s
+  row-holds opening begins q s l =
       let t = start + q in
       record {
         input = given node (inputs t) s;
         first = isFirst t;
         past = before values t;
         value = sym (at-instant q s l) ∙ solves .holds t s l ∙ row-in-window q s l (given node (inputs t) s) (isFirst t) (before values t);
-        opens = λ zeroth base. let none : start + q ≡ 0 = omega (arith, zeroth, opening base) in ap isFirst none;
-        later = λ m. not-first t (omega arith);
-        before = past-in-window q;
+        place = place-says opening begins q;
       }
 
-  pub solves-window : (isBase : Bool) → (isBase ≡ true → start ≡ 0) → (offsets : ℕ) → Solves node isBase offsets window
-  solves-window isBase opening offsets =
+  pub solves-window : (opening : Place) → SaysAt opening 0 → (offsets : ℕ) → Solves node opening offsets window
+  solves-window opening begins offsets =
       record {
         fits = λ q s m l. subst (Fits (node .kinds s)) (at-instant q s l) (solves .fits (start + q) s l);
-        rows = λ q s m l. row-holds isBase opening q s l;
+        rows = λ q s m l. row-holds opening begins q s l;
       }

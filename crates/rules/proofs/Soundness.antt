@@ -2,7 +2,7 @@
 -- instant after k instants at which it holds, and so at every instant.
 -- Assumes nothing.
 use mathlib.Core.Path.{_≡_, refl, sym, _∙_, ap, subst}
-use mathlib.Core.Bool.{Bool, true, false, false≢true}
+use mathlib.Core.Bool.{Bool, true, false}
 use mathlib.Core.List.{List}
 use Prim.Native.Nat.{ℕ, zero, suc, _+_, _-_, _<_, _≤_}
 use native.Mathlib.Nat.{not-suc-le-zero, le-refl}
@@ -13,7 +13,7 @@ use lib.IntN.{ℤ, pos}
 use Rattle.node.specs.Layout.{streamsOf, propertyOf}
 use Rattle.node.proofs.FileRules.{sizes}
 use Rattle.node.proofs.WellFormedness.{well-formed}
-use Rattle.streams.specs.Nodes.{nodeOf}
+use Rattle.streams.specs.Nodes.{nodeOf, WellFormedNode}
 use Rattle.streams.specs.Solutions.{Streams, Solution}
 use Rattle.streams.specs.Typing.{Inputs}
 use Rattle.streams.specs.Values.{truth}
@@ -61,6 +61,9 @@ module _ (node cert : List ℕ) (rules : CertificateRules node cert) where
   abbrev prop : ℕ
   prop = propertyOf node
 
+  formed : WellFormedNode (nodeOf node)
+  formed = well-formed node (rules .node-rules)
+
   deep : k ≤ 8
   deep = certificate-sizes cert (rules .file) .deep
 
@@ -71,7 +74,7 @@ module _ (node cert : List ℕ) (rules : CertificateRules node cert) where
   low = omega (arith, few, sizes node (rules .node-rules .file) .property)
 
   -- in the base's windows the property holds at each offset below k ..
-  base-holds : (w : Valuation) → Solves (nodeOf node) true k w → (q : ℕ) → q < k → holdsAt w prop q ≡ true
+  base-holds : (w : Valuation) → Solves (nodeOf node) (baseOf node cert .opening) k w → (q : ℕ) → q < k → holdsAt w prop q ≡ true
   base-holds w solves q l =
       not-false-true (holdsAt w prop q)
       (λ fails.
@@ -79,7 +82,7 @@ module _ (node cert : List ℕ) (rules : CertificateRules node cert) where
       (λ line ok. base-property-satisfied (constraintOf cert) w k prop deep low line ok q l fails))
 
   -- .. and in the step's at offset k, where it holds at those below
-  step-holds : (w : Valuation) → Solves (nodeOf node) false (k + 1) w → ((q : ℕ) → q < k → holdsAt w prop q ≡ true) → holdsAt w prop k ≡ true
+  step-holds : (w : Valuation) → Solves (nodeOf node) (stepOf node cert .opening) (k + 1) w → ((q : ℕ) → q < k → holdsAt w prop q ≡ true) → holdsAt w prop k ≡ true
   step-holds w solves before =
       not-false-true (holdsAt w prop k)
       (λ fails.
@@ -91,22 +94,19 @@ module _ (node cert : List ℕ) (rules : CertificateRules node cert) where
     abbrev Holds : ℕ → Type 0
     Holds t = truth (values t prop) ≡ true
 
-    window-solves : (start : ℕ) (isBase : Bool) → (isBase ≡ true → start ≡ 0) → (offsets : ℕ) → Solves (nodeOf node) isBase offsets (windowFrom values start)
-    window-solves = solves-window (nodeOf node) (well-formed node (rules .node-rules)) few inputs values solution
-
     -- the property in a window is that at the instant
     in-window : (start q : ℕ) → holdsAt (windowFrom values start) prop q ≡ truth (values (start + q) prop)
     in-window start q = ap truth (window-at values start q prop low)
 
     first-instants : (j : ℕ) → j < k → Holds j
     first-instants j l =
-        let held = base-holds (windowFrom values 0) (window-solves 0 true (λ e. refl) k) j l in
+        let held = base-holds (windowFrom values 0) (solves-window (nodeOf node) formed few inputs values solution 0 (baseOf node cert .opening) refl k) j l in
         let here : 0 + j ≡ j = omega arith in
         subst Holds here (sym (in-window 0 j) ∙ held)
 
     next-instant : (t : ℕ) → ((j : ℕ) → j < k → Holds (t + j)) → Holds (t + k)
     next-instant t before =
-        let solves = window-solves t false (λ e. absurd (false≢true e)) (k + 1) in
+        let solves = solves-window (nodeOf node) formed few inputs values solution t (stepOf node cert .opening) tt (k + 1) in
         sym (in-window t k) ∙ step-holds (windowFrom values t) solves (λ q l. in-window t q ∙ before q l)
 
     pub property-holds : (t : ℕ) → values t prop ≡ pos 1

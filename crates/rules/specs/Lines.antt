@@ -1,6 +1,6 @@
--- The conditions 16 to 18 and 21 of "Where each refusal is met", and a line's whole rule.
+-- The conditions 16 to 18 and 21 of "Where each refusal is met", and which of 17 to 20 a line of a kind breaks.
 use Prim.Native.Nat.{ℕ, _+_, _-_}
-use mathlib.Core.Bool.{Bool, true, false, cond, not, _&&_, _||_}
+use mathlib.Core.Bool.{Bool, false, cond, not, _&&_, _||_}
 use lib.Dec.{leb, ltb, eqb}
 use Rattle.answers.specs.Checks.{every}
 use Rattle.node.specs.declared.equation.Kind.{Kind}
@@ -18,8 +18,6 @@ use Rattle.rules.specs.Clauses.{clauses, numbered}
 use Rattle.literals.specs.Literals.{positive, negative, atomOf}
 use Rattle.rules.specs.Literals.{namesAtom}
 use Rattle.rules.specs.Matching.{matchesOf}
-use Rattle.rules.specs.Arithmetic.{arithmeticOk}
-use Rattle.rules.specs.Joins.{joinOk}
 
 -- a line as the rules see it: what kind 4 uses of multipliers, all other kinds leave at zero
 abbrev pub multiplierOk : (kind multiplier : ℕ) → Bool
@@ -54,8 +52,8 @@ pub record Window : Type 0 where
   pub until : ℕ
   -- its equations stand at the offsets below this one
   pub offsets : ℕ
-  -- whether its first offset is instant 0
-  pub isBase : Bool
+  -- where its first offset stands
+  pub opening : Place
   -- what its property lines are
   pub property : Line → Bool
 
@@ -78,24 +76,19 @@ stepPropertyOk k prop line =
     && eqb (line .head .count) 1
     && eqb (line .literal 0) (cond (eqb q k) (negative (variable q prop)) (positive (variable q prop)))
 
--- the base: the instants 0 to k − 1
+-- the base: the instants 0 to k − 1; its first offset is instant 0
 abbrev pub baseWindow : (k prop base : ℕ) → Window
 baseWindow k prop base =
-    record { from = 0; until = base; offsets = k; isBase = true; property = basePropertyOk k prop }
+    record { from = 0; until = base; offsets = k; opening = Opening; property = basePropertyOk k prop }
 
--- the step: any k + 1 instants in a row
+-- the step: any k + 1 instants in a row; its first offset is any instant
 abbrev pub stepWindow : (k prop base step : ℕ) → Window
 stepWindow k prop base step =
-    record { from = base; until = base + step; offsets = k + 1; isBase = false; property = stepPropertyOk k prop }
+    record { from = base; until = base + step; offsets = k + 1; opening = Unsure; property = stepPropertyOk k prop }
 
--- what the first offset of a part is: instant 0 in the base, any instant in the step
-abbrev pub openingOf : (isBase : Bool) → Place
-openingOf true = Opening
-openingOf false = Unsure
-
--- where an offset stands
-abbrev pub placeOf : (isBase : Bool) → (offset : ℕ) → Place
-placeOf isBase offset = cond (eqb offset 0) (openingOf isBase) Inner
+-- where an offset of a part stands
+abbrev pub placeOf : (opening : Place) → (offset : ℕ) → Place
+placeOf opening offset = cond (eqb offset 0) opening Inner
 
 -- a line's literals are those of a clause, in its order
 unfoldable pub clauseIs : (ℕ → Constraint) → (m : ℕ) → Line → Clause → Bool
@@ -117,25 +110,32 @@ pub record Streams : Type 0 where
   pub equations : ℕ → Equation
 
 -- 17: "clause r, counted from 0, of stream p at offset q (base: below k; step: up to k)"
-unfoldable pub equationIn : (n : ℕ) (kinds : ℕ → Kind) (equations : ℕ → Equation) → (ℕ → Constraint) → (m offsets : ℕ) → (isBase : Bool) → Line → Bool
-equationIn n kinds equations constraints m offsets isBase line =
+unfoldable pub equationIn : (n : ℕ) (kinds : ℕ → Kind) (equations : ℕ → Equation) → (ℕ → Constraint) → (m offsets : ℕ) → (opening : Place) → Line → Bool
+equationIn n kinds equations constraints m offsets opening line =
     let p = line .head .p in
     let q = line .head .q in
     ltb p n
     && ltb q offsets
     && literalsAre constraints m line
-    (numbered (clauses (kinds p) (equations p) (placeOf isBase q) (variable q) (variable (q - 1)) (variable q p)) (line .head .r))
+    (numbered (clauses (kinds p) (equations p) (placeOf opening q) (variable q) (variable (q - 1)) (variable q p)) (line .head .r))
 
 abbrev pub equationOk : Streams → (ℕ → Constraint) → (m : ℕ) → Window → Line → Bool
 equationOk node constraints m w =
-    equationIn (node .count) (node .kinds) (node .equations) constraints m (w .offsets) (w .isBase)
+    equationIn (node .count) (node .kinds) (node .equations) constraints m (w .offsets) (w .opening)
 
--- 17, 18, 19, 20: a line's kind
-unfoldable pub kindOk : Streams → (ℕ → Constraint) → (m : ℕ) → Window → (ℕ → Line) → (i : ℕ) → Bool
-kindOk node constraints m w lines i =
-    let kind = lines i .head .kind in
-    cond (eqb kind 1) (equationOk node constraints m w (lines i))
-    (cond (eqb kind 2) (w .property (lines i)) (cond (eqb kind 3) (joinOk lines (w .from) i) (arithmeticOk constraints (lines i))))
+-- a rule's number where its test fails, else what the rules after it give
+abbrev pub unless : (ok : Bool) → (number rest : ℕ) → ℕ
+unless ok number rest = cond ok rest number
+
+-- a line of one kind keeps that kind's rule; of the other lines nothing is asked
+abbrev pub ofKind : (kind its : ℕ) → (ok : Bool) → Bool
+ofKind kind its ok = not (eqb kind its) || ok
+
+-- "17, 18, 19, 20: kind 1, 2, 3, 4 not as above": the number of the rule that a line of a kind breaks, 0 where it breaks none
+unfoldable pub kindFault : (kind : ℕ) → (equation property join arithmetic : Bool) → ℕ
+kindFault kind equation property join arithmetic =
+    unless (ofKind kind 1 equation) 17
+    (unless (ofKind kind 2 property) 18 (unless (ofKind kind 3 join) 19 (unless (ofKind kind 4 arithmetic) 20 0)))
 
 -- line i of those from `from` on has literals
 abbrev pub hasLiterals : (ℕ → Line) → (from i : ℕ) → Bool

@@ -14,7 +14,7 @@ use Rattle.node.specs.Rules.{lengthOk}
 use Rattle.constraints.specs.Layout.{trailerOf, lineOf}
 use Rattle.constraints.specs.Rules.{fixedOk, countsOk, distanceOk}
 use Rattle.rules.specs.Lines.{hasEmpty}
-use Rattle.rules.specs.Verdict.{baseOf, stepOf, linesOf, valuesOf, constraintPasses, shapePasses, equationPasses, propertyPasses, joinPasses, arithmeticPasses, linePasses, lineNumber}
+use Rattle.rules.specs.Verdict.{baseOf, stepOf, linesOf, valuesOf, constraintPasses, shapePasses, equationPasses, propertyPasses, joinPasses, arithmeticPasses, linePasses}
 
 -- 11 to 14
 pub record FileRules (cert : List ℕ) : Type 0 where
@@ -53,6 +53,18 @@ pub record BeforeLines (node cert : List ℕ) : Type 0 where
   pub file : FileRules cert
   pub constraints : ConstraintsKeep node cert
 
+-- line i is met: the rules before all lines hold, and the lines before it keep theirs
+pub record LineMet (node cert : List ℕ) (i : ℕ) : Type 0 where
+  pub before : BeforeLines node cert
+  pub below : i < linesOf cert
+  pub earlier : (j : ℕ) → j < i → linePasses node cert j ≡ true
+
+-- it has passed rule 16, and is of this kind
+pub record KindMet (node cert : List ℕ) (i kind : ℕ) : Type 0 where
+  pub met : LineMet node cert i
+  pub shape : shapePasses node cert i ≡ true
+  pub is : lineOf cert i .head .kind ≡ kind
+
 -- what a refusal says: the rules before it hold, and it is met at its lowest place
 pub data FirstFailure (node cert : List ℕ) : (number : ℕ) → Place → Type 0 where
   in-node : {number : ℕ} {place : Place} → NodeFailure node number place → FirstFailure node cert number place
@@ -61,7 +73,11 @@ pub data FirstFailure (node cert : List ℕ) : (number : ℕ) → Place → Type
   at-13 : NodeRules node → lengthOk (length cert) ≡ true → fixedOk (trailerOf cert) ≡ true → countsOk (trailerOf cert) ≡ false → FirstFailure node cert 13 File
   at-14 : NodeRules node → lengthOk (length cert) ≡ true → fixedOk (trailerOf cert) ≡ true → countsOk (trailerOf cert) ≡ true → distanceOk (trailerOf cert) (length cert) ≡ false → FirstFailure node cert 14 File
   at-15 : {i : ℕ} → NodeRules node → FileRules cert → Lowest (constraintPasses node cert) (trailerOf cert .constraints) i → FirstFailure node cert 15 (AtConstraint i)
-  at-line : {i : ℕ} → BeforeLines node cert → Lowest (linePasses node cert) (linesOf cert) i → FirstFailure node cert (lineNumber node cert i) (AtLine i)
+  at-16 : {i : ℕ} → LineMet node cert i → shapePasses node cert i ≡ false → FirstFailure node cert 16 (AtLine i)
+  at-17 : {i : ℕ} → KindMet node cert i 1 → equationPasses node cert i ≡ false → FirstFailure node cert 17 (AtLine i)
+  at-18 : {i : ℕ} → KindMet node cert i 2 → propertyPasses node cert i ≡ false → FirstFailure node cert 18 (AtLine i)
+  at-19 : {i : ℕ} → KindMet node cert i 3 → joinPasses cert i ≡ false → FirstFailure node cert 19 (AtLine i)
+  at-20 : {i : ℕ} → KindMet node cert i 4 → arithmeticPasses cert i ≡ false → FirstFailure node cert 20 (AtLine i)
   at-21-base : BeforeLines node cert → LinesKeep cert (linePasses node cert) → hasEmpty (lineOf cert) (baseOf node cert) ≡ false → FirstFailure node cert 21 Base
   at-21-step : BeforeLines node cert → LinesKeep cert (linePasses node cert) → hasEmpty (lineOf cert) (baseOf node cert) ≡ true → hasEmpty (lineOf cert) (stepOf node cert) ≡ false → FirstFailure node cert 21 Step
 

@@ -1,13 +1,13 @@
 -- The answer to a node file and a certificate: the whole table "Where each refusal is met" but for sessions, from the top.
 use Prim.Native.Nat.{ℕ, _+_}
 use mathlib.Core.List.{List}
-use mathlib.Core.Bool.{Bool, cond, _&&_}
-use lib.Dec.{ltb}
+use mathlib.Core.Bool.{Bool, cond}
+use lib.Dec.{ltb, eqb}
 use lib.ListN.{length}
 use Rattle.answers.specs.declared.Found.{Found}
 use Rattle.answers.specs.declared.Found.the-variants.{At, Nothing}
 use Rattle.answers.specs.declared.Place.the-variants.{File, Constraint as AtConstraint, Line as AtLine, Base, Step}
-use Rattle.answers.specs.Answer.{Answer, accepted, refused, NodeValues, CertificateValues}
+use Rattle.answers.specs.Answer.{Answer, accepted, refused, CertificateValues}
 use Rattle.answers.specs.Checks.{check, checkAll, lowest}
 use Rattle.node.specs.Equations.{kindAt, equationAt}
 use Rattle.node.specs.Layout.{streamsOf, propertyOf}
@@ -18,7 +18,7 @@ use Rattle.constraints.specs.Rules.{Sorts, fixedOk, countsOk, distanceOk, const
 use Rattle.rules.specs.Sorts.{sortsBelow}
 use Rattle.rules.specs.Arithmetic.{arithmeticOk}
 use Rattle.rules.specs.Joins.{joinOk}
-use Rattle.rules.specs.Lines.{Streams, Window, baseWindow, stepWindow, shapeOk, equationOk, kindOk, hasEmpty}
+use Rattle.rules.specs.Lines.{Streams, Window, baseWindow, stepWindow, shapeOk, equationOk, unless, kindFault, hasEmpty}
 
 -- the streams of a node: 0 a bool, 1 an int, 2 none
 abbrev pub sortsOfNode : List ℕ → Sorts
@@ -78,17 +78,19 @@ joinPasses cert i = joinOk (lineOf cert) (firstLine cert i) i
 abbrev pub arithmeticPasses : (cert : List ℕ) → (i : ℕ) → Bool
 arithmeticPasses cert i = arithmeticOk (constraintOf cert) (lineOf cert i)
 
--- the rule of line i's kind
-unfoldable pub kindPasses : (node cert : List ℕ) → (i : ℕ) → Bool
-kindPasses node cert i =
-    kindOk (streamsOfNode node) (constraintOf cert) (trailerOf cert .constraints) (windowOf node cert i) (lineOf cert) i
+-- the number of its kind's rule, where line i breaks it, else 0
+abbrev pub ownFault : (node cert : List ℕ) → (i : ℕ) → ℕ
+ownFault node cert i =
+    kindFault (lineOf cert i .head .kind) (equationPasses node cert i) (propertyPasses node cert i) (joinPasses cert i) (arithmeticPasses cert i)
 
--- "lines are taken one at a time, 16 before its kind's number"
+-- "lines are taken one at a time, 16 before its kind's number": the number of the first rule that line i breaks, 0 where it breaks
+-- none
+unfoldable pub lineFault : (node cert : List ℕ) → (i : ℕ) → ℕ
+lineFault node cert i =
+    unless (shapePasses node cert i) 16 (ownFault node cert i)
+
 abbrev pub linePasses : (node cert : List ℕ) → (i : ℕ) → Bool
-linePasses node cert i = shapePasses node cert i && kindPasses node cert i
-
-abbrev pub lineNumber : (node cert : List ℕ) → (i : ℕ) → ℕ
-lineNumber node cert i = cond (shapePasses node cert i) (16 + lineOf cert i .head .kind) 16
+linePasses node cert i = eqb (lineFault node cert i) 0
 
 -- the lowest line at fault, refused with the number of what it breaks
 abbrev pub checkLines : Found → (number : ℕ → ℕ) → Answer CertificateValues → Answer CertificateValues
@@ -99,33 +101,40 @@ checkLines Nothing number rest = rest
 abbrev pub valuesOf : (cert : List ℕ) → CertificateValues
 valuesOf cert = let t = trailerOf cert in record { depth = t .depth; base = t .base; step = t .step }
 
--- the checks of lines and parts
+-- 21: "base first, after all lines"
+unfoldable pub partsVerdict : (node cert : List ℕ) → Answer CertificateValues
+partsVerdict node cert =
+    check (hasEmpty (lineOf cert) (baseOf node cert)) 21 Base
+    (check (hasEmpty (lineOf cert) (stepOf node cert)) 21 Step
+    (accepted (valuesOf cert)))
+
+-- the checks of lines and parts: 16 to 21
 unfoldable pub linesVerdict : (node cert : List ℕ) → Answer CertificateValues
 linesVerdict node cert =
-    checkLines (lowest (linePasses node cert) (linesOf cert)) (lineNumber node cert)
-    (check (hasEmpty (lineOf cert) (baseOf node cert)) 21 Base
-    (check (hasEmpty (lineOf cert) (stepOf node cert)) 21 Step
-    (accepted (valuesOf cert))))
+    checkLines (lowest (linePasses node cert) (linesOf cert)) (lineFault node cert) (partsVerdict node cert)
 
--- the checks of the constraints, then those of the lines
-unfoldable pub constraintsVerdict : (node cert : List ℕ) → Answer CertificateValues
+-- the checks of the constraints: 15
+unfoldable pub constraintsVerdict : (node cert : List ℕ) → Answer (Unit {0})
 constraintsVerdict node cert =
-    checkAll (lowest (constraintPasses node cert) (trailerOf cert .constraints)) 15 AtConstraint
-    (linesVerdict node cert)
+    checkAll (lowest (constraintPasses node cert) (trailerOf cert .constraints)) 15 AtConstraint (accepted tt)
 
--- the checks of the certificate file, then those of what it holds
-unfoldable pub certificateVerdict : (node cert : List ℕ) → Answer CertificateValues
-certificateVerdict node cert =
+-- the checks of the certificate file, then those of its constraints: 11 to 15
+unfoldable pub fileVerdict : (node cert : List ℕ) → Answer (Unit {0})
+fileVerdict node cert =
     check (lengthOk (length cert)) 11 File
     (check (fixedOk (trailerOf cert)) 12 File
     (check (countsOk (trailerOf cert)) 13 File
     (check (distanceOk (trailerOf cert) (length cert)) 14 File
     (constraintsVerdict node cert))))
 
--- "Certificate checks follow 1 to 8."
-abbrev pub afterNode : Answer NodeValues → Answer CertificateValues → Answer CertificateValues
-afterNode (accepted node) rest = rest
-afterNode (refused number place) rest = refused number place
+-- where the checks before them pass, the answer is that of those after
+abbrev pub andThen : {A B : Type 0} → Answer A → Answer B → Answer B
+andThen (accepted a) rest = rest
+andThen (refused number place) rest = refused number place
+
+-- the checks before any line: "Certificate checks follow 1 to 8."
+unfoldable pub beforeLines : (node cert : List ℕ) → Answer (Unit {0})
+beforeLines node cert = andThen (nodeVerdict node) (fileVerdict node cert)
 
 unfoldable pub verdictOf : (node cert : List ℕ) → Answer CertificateValues
-verdictOf node cert = afterNode (nodeVerdict node) (certificateVerdict node cert)
+verdictOf node cert = andThen (beforeLines node cert) (linesVerdict node cert)

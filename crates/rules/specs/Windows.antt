@@ -1,5 +1,5 @@
 -- Windows: a few instants in a row of an assignment, and what it is that a node's equations hold in one.
-use Prim.Native.Nat.{ℕ, _+_, _-_, _/_, _%_, _<_, _≤_}
+use Prim.Native.Nat.{ℕ, _+_, _-_, _/_, _%_, _<_}
 use mathlib.Core.Path.{_≡_}
 use mathlib.Core.Bool.{Bool, true, false}
 use lib.IntN.{ℤ}
@@ -9,24 +9,31 @@ use Rattle.streams.specs.Solutions.{Streams}
 use Rattle.streams.specs.Typing.{Fits}
 use Rattle.streams.specs.Values.{Values}
 use Rattle.constraints.specs.Linear.{variable}
+use Rattle.rules.specs.declared.pattern.Place.{Place}
+use Rattle.rules.specs.declared.pattern.Place.the-variants.{Opening, Unsure, Inner}
+use Rattle.rules.specs.Lines.{placeOf}
 use Rattle.rules.specs.Satisfaction.{Valuation}
 
 -- the instants from `start` on: variable 64·offset + stream is the stream at instant start + offset
 unfoldable pub windowFrom : Streams → (start : ℕ) → Valuation
 windowFrom values start x = values (start + x / 64) (x % 64)
 
--- stream s at offset q has the value in its operator's row. Offset 0 of the base is instant 0; past offset 0 the instant before is
--- one offset lower, and no instant is 0. Of offset 0 of the step nothing is known.
-pub record RowHolds (node : Node) (isBase : Bool) (w : Valuation) (q s : ℕ) : Type 0 where
+-- what a place says of the instant there, and of the values one instant before: Opening is instant 0, Unsure any instant, Inner no
+-- first one, with the instant before one offset lower
+abbrev pub PlaceSays : Place → (n : ℕ) → (first : Bool) → (past back : Values) → Type 0
+PlaceSays Opening n first past back = first ≡ true
+PlaceSays Unsure n first past back = Unit {0}
+PlaceSays Inner n first past back = (first ≡ false) × ((x : ℕ) → x < n → past x ≡ back x)
+
+-- stream s at offset q has the value in its operator's row, at an instant that is as the offset's place says
+pub record RowHolds (node : Node) (opening : Place) (w : Valuation) (q s : ℕ) : Type 0 where
   pub input : ℤ
   pub first : Bool
   pub past : Values
   pub value : w (variable q s) ≡ meaning (node .equations s) input first past (λ x. w (variable q x))
-  pub opens : q ≡ 0 → isBase ≡ true → first ≡ true
-  pub later : 1 ≤ q → first ≡ false
-  pub before : 1 ≤ q → (x : ℕ) → x < node .streams → past x ≡ w (variable (q - 1) x)
+  pub place : PlaceSays (placeOf opening q) (node .streams) first past (λ x. w (variable (q - 1) x))
 
 -- the equations hold at the offsets below `offsets`
-pub record Solves (node : Node) (isBase : Bool) (offsets : ℕ) (w : Valuation) : Type 0 where
+pub record Solves (node : Node) (opening : Place) (offsets : ℕ) (w : Valuation) : Type 0 where
   pub fits : (q s : ℕ) → q < offsets → s < node .streams → Fits (node .kinds s) (w (variable q s))
-  pub rows : (q s : ℕ) → q < offsets → s < node .streams → RowHolds node isBase w q s
+  pub rows : (q s : ℕ) → q < offsets → s < node .streams → RowHolds node opening w q s

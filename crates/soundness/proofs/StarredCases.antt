@@ -24,8 +24,8 @@ use Rattle.constraints.specs.Rules.{fixedOk as certFixed, countsOk as certCount
 use Rattle.rules.specs.Literals.{namesAtom}
 use Rattle.rules.specs.Arithmetic.{sumOf, arithmeticOk}
 use Rattle.rules.specs.Joins.{standsFrom, joins, joinOk}
-use Rattle.rules.specs.Lines.{slotOk, numbersOk, shapeOk as lineShape, basePropertyOk, stepPropertyOk, clauseIs, equationIn, kindOk}
-use Rattle.rules.specs.Verdict.{shapePasses, kindPasses, linesVerdict, constraintsVerdict, certificateVerdict, verdictOf}
+use Rattle.rules.specs.Lines.{slotOk, numbersOk, shapeOk as lineShape, basePropertyOk, stepPropertyOk, clauseIs, equationIn, kindFault}
+use Rattle.rules.specs.Verdict.{shapePasses, lineFault, partsVerdict, linesVerdict, constraintsVerdict, fileVerdict, beforeLines, verdictOf}
 use Rattle.streams.specs.Evaluation.{upTo, evaluated, instant}
 use Rattle.streams.specs.Values.{equals, truth, valuesIn}
 use Rattle.session.specs.Instants.{inputFits, instantOf, workedOut, answerOf, sliceOf}
@@ -85,19 +85,19 @@ unfolding doubling nodeFile recordBytes trailerBytes nodeVerdict recordsVerdict 
 least-doubled = record { node = record { streams = 3; property = 2 }; is-accepted = refl; answered = refl; values = refl }
 
 opposites-pass : Holds (checks trueAndInts (opposites (minusOne 8) (noughts 8)) (accepted (record { depth = 1; base = 4; step = 3 })))
-unfolding trueAndInts opposites atMost nodeFile recordBytes trailerBytes nodeVerdict recordsVerdict lengthOk fixedOk countsOk distanceOk lowest shapeOk unusedOk operandsOk typesOk propertyOk rowOf recordsOf recordAmong twosComplement line certificateFile certFixed certCounts certDistance verdictOf certificateVerdict constraintsVerdict linesVerdict every shapePasses lineShape slotOk numbersOk namesAtom kindPasses kindOk kindAmong decoded equationIn clauseIs basePropertyOk stepPropertyOk standsFrom joins joinOk constraintOk termOk usedOk rises termUnused written sumOf arithmeticOk
+unfolding trueAndInts opposites atMost nodeFile recordBytes trailerBytes nodeVerdict recordsVerdict lengthOk fixedOk countsOk distanceOk lowest shapeOk unusedOk operandsOk typesOk propertyOk rowOf recordsOf recordAmong twosComplement line certificateFile certFixed certCounts certDistance verdictOf fileVerdict beforeLines constraintsVerdict partsVerdict linesVerdict every shapePasses lineShape slotOk numbersOk namesAtom lineFault kindFault kindAmong decoded equationIn clauseIs basePropertyOk stepPropertyOk standsFrom joins joinOk constraintOk termOk usedOk rises termUnused written sumOf arithmeticOk
 opposites-pass = refl
 
 opposites-fail : Holds (checks trueAndInts (opposites (noughts 8) (noughts 8)) (refused 20 (AtLine 3)))
-unfolding trueAndInts opposites atMost nodeFile recordBytes trailerBytes nodeVerdict recordsVerdict lengthOk fixedOk countsOk distanceOk lowest shapeOk unusedOk operandsOk typesOk propertyOk rowOf recordsOf recordAmong twosComplement line certificateFile certFixed certCounts certDistance verdictOf certificateVerdict constraintsVerdict linesVerdict every shapePasses lineShape slotOk numbersOk namesAtom kindPasses kindOk kindAmong decoded equationIn clauseIs basePropertyOk stepPropertyOk standsFrom joins joinOk constraintOk termOk usedOk rises termUnused written sumOf arithmeticOk
+unfolding trueAndInts opposites atMost nodeFile recordBytes trailerBytes nodeVerdict recordsVerdict lengthOk fixedOk countsOk distanceOk lowest shapeOk unusedOk operandsOk typesOk propertyOk rowOf recordsOf recordAmong twosComplement line certificateFile certFixed certCounts certDistance verdictOf fileVerdict beforeLines constraintsVerdict partsVerdict linesVerdict every shapePasses lineShape slotOk numbersOk namesAtom lineFault kindFault kindAmong decoded equationIn clauseIs basePropertyOk stepPropertyOk standsFrom joins joinOk constraintOk termOk usedOk rises termUnused written sumOf arithmeticOk
 opposites-fail = refl
 
 depth-8 : Holds (checks constantTrue (ofDepth 8) (accepted (record { depth = 8; base = 17; step = 3 })))
-unfolding constantTrue ofDepth nodeFile recordBytes trailerBytes nodeVerdict recordsVerdict lengthOk fixedOk countsOk distanceOk lowest shapeOk unusedOk operandsOk typesOk propertyOk rowOf recordsOf recordAmong twosComplement line certificateFile certFixed certCounts certDistance verdictOf certificateVerdict constraintsVerdict linesVerdict every shapePasses lineShape slotOk numbersOk namesAtom kindPasses kindOk kindAmong decoded equationIn clauseIs basePropertyOk stepPropertyOk standsFrom joins joinOk
+unfolding constantTrue ofDepth nodeFile recordBytes trailerBytes nodeVerdict recordsVerdict lengthOk fixedOk countsOk distanceOk lowest shapeOk unusedOk operandsOk typesOk propertyOk rowOf recordsOf recordAmong twosComplement line certificateFile certFixed certCounts certDistance verdictOf fileVerdict beforeLines constraintsVerdict partsVerdict linesVerdict every shapePasses lineShape slotOk numbersOk namesAtom lineFault kindFault kindAmong decoded equationIn clauseIs basePropertyOk stepPropertyOk standsFrom joins joinOk
 depth-8 = refl
 
 depth-9 : Holds (checks constantTrue (ofDepth 9) (refused 13 File))
-unfolding constantTrue ofDepth nodeFile recordBytes trailerBytes nodeVerdict recordsVerdict lengthOk fixedOk countsOk distanceOk lowest shapeOk unusedOk operandsOk typesOk propertyOk rowOf recordsOf recordAmong twosComplement line certificateFile certFixed certCounts certDistance verdictOf certificateVerdict
+unfolding constantTrue ofDepth nodeFile recordBytes trailerBytes nodeVerdict recordsVerdict lengthOk fixedOk countsOk distanceOk lowest shapeOk unusedOk operandsOk typesOk propertyOk rowOf recordsOf recordAmong twosComplement line certificateFile certFixed certCounts certDistance verdictOf fileVerdict beforeLines
 depth-9 = refl
 
 size-64 : Holds (reads (ofSize 64) (accepted (record { streams = 64; property = 0 })))
@@ -109,11 +109,11 @@ unfolding ofSize nodeFile recordBytes trailerBytes nodeVerdict recordsVerdict le
 size-65 = refl
 
 bands-whole : Holds (checks twoBands bandsWhole (accepted (record { depth = 1; base = 12; step = 12 })))
-unfolding twoBands bandsWhole nodeFile recordBytes trailerBytes nodeVerdict recordsVerdict lengthOk fixedOk countsOk distanceOk lowest shapeOk unusedOk operandsOk typesOk propertyOk rowOf recordsOf recordAmong twosComplement line certificateFile certFixed certCounts certDistance verdictOf certificateVerdict constraintsVerdict linesVerdict every shapePasses lineShape slotOk numbersOk namesAtom kindPasses kindOk kindAmong decoded equationIn clauseIs basePropertyOk stepPropertyOk standsFrom joins joinOk
+unfolding twoBands bandsWhole nodeFile recordBytes trailerBytes nodeVerdict recordsVerdict lengthOk fixedOk countsOk distanceOk lowest shapeOk unusedOk operandsOk typesOk propertyOk rowOf recordsOf recordAmong twosComplement line certificateFile certFixed certCounts certDistance verdictOf fileVerdict beforeLines constraintsVerdict partsVerdict linesVerdict every shapePasses lineShape slotOk numbersOk namesAtom lineFault kindFault kindAmong decoded equationIn clauseIs basePropertyOk stepPropertyOk standsFrom joins joinOk
 bands-whole = refl
 
 no-base-lines : Holds (checks twoBands stepAlone (refused 21 Base))
-unfolding twoBands stepAlone nodeFile recordBytes trailerBytes nodeVerdict recordsVerdict lengthOk fixedOk countsOk distanceOk lowest shapeOk unusedOk operandsOk typesOk propertyOk rowOf recordsOf recordAmong twosComplement line certificateFile certFixed certCounts certDistance verdictOf certificateVerdict constraintsVerdict linesVerdict every shapePasses lineShape slotOk numbersOk namesAtom kindPasses kindOk kindAmong decoded equationIn clauseIs basePropertyOk stepPropertyOk standsFrom joins joinOk
+unfolding twoBands stepAlone nodeFile recordBytes trailerBytes nodeVerdict recordsVerdict lengthOk fixedOk countsOk distanceOk lowest shapeOk unusedOk operandsOk typesOk propertyOk rowOf recordsOf recordAmong twosComplement line certificateFile certFixed certCounts certDistance verdictOf fileVerdict beforeLines constraintsVerdict partsVerdict linesVerdict every shapePasses lineShape slotOk numbersOk namesAtom lineFault kindFault kindAmong decoded equationIn clauseIs basePropertyOk stepPropertyOk standsFrom joins joinOk
 no-base-lines = refl
 
 pub starred : Starred

@@ -1,7 +1,6 @@
 -- `arithmetic::arithmetic_ok` meets its contract: the tests in a row.
 -- Assumes nothing.
 use mathlib.Core.Path.{_≡_, sym, _∙_, ap}
-use mathlib.Core.Bool.{false≢true}
 use Prim.Native.Nat.{ℕ, _≤_, _<_}
 use native.Mathlib.Omega.{arith}
 use borrow.Author.Needs.{needs}
@@ -16,7 +15,7 @@ use Rattle.constraints.specs.Layout.{lineAt}
 use Rattle.arithmetic.specs.Sums.{constraintsFrom, sumsOf}
 use Rattle.arithmetic.specs.Checkable.{Usable}
 use Rattle.arithmetic.proofs.Adding.{length-sums}
-use Rattle.arithmetic.proofs.Deciding.{ends-none, ends-other, ends, ends-clear, each-usable}
+use Rattle.arithmetic.proofs.Deciding.{ends-none, ends-other, ends, after-none, after-other, after-all, each-usable}
 use Rattle.arithmetic.proofs.arithmetic_ok.Statement.{statement}
 use Rattle.arithmetic.proofs.arithmetic_ok.Tie as tie
 
@@ -29,13 +28,12 @@ cast-count c = search needs
 returns : tie.Need-returns
 returns c =
     let head = c .before .before in
-    let s = head .before .before in (
-      ends-none (constraintsFrom (s .args .file .now) (s .args .start)) (lineAt (s .args .file .now) (s .args .at))
-          (head .line-head .result .count)
-          (ap (λ (h : LineHead). h .count) (head .line-head .ensures))
-          (c .if1 .taken),
-      λ e. absurd (false≢true e),
-    )
+    let s = head .before .before in
+    let constraints = constraintsFrom (s .args .file .now) (s .args .start) in
+    let line = lineAt (s .args .file .now) (s .args .at) in
+    let count = head .line-head .result .count in
+    let count-is = ap (λ (h : LineHead). h .count) (head .line-head .ensures) in
+    (ends-none constraints line count count-is (c .if1 .taken), s .pre .1 ∙ after-none constraints line count count-is (c .if1 .taken))
 
 few : (c : tie.Else1) → c .before .before .line-head .result .count ≤ 12
 few c =
@@ -48,13 +46,14 @@ are-constraints-requires c κs = (c .before .before .before .before .pre .0 .roo
 returns-2 : tie.Need-returns-2
 returns-2 c =
     let head = c .before .before .before .before in
-    let s = head .before .before in (
-      ends-other (constraintsFrom (s .args .file .now) (s .args .start)) (lineAt (s .args .file .now) (s .args .at))
-          (head .line-head .result .count)
-          (ap (λ (h : LineHead). h .count) (head .line-head .ensures))
-          (c .before .before .if1 .left)
-          (sym (c .before .are-constraints .ensures) ∙ not-true _ (c .if2 .taken)),
-      λ e. absurd (false≢true e),
+    let s = head .before .before in
+    let constraints = constraintsFrom (s .args .file .now) (s .args .start) in
+    let line = lineAt (s .args .file .now) (s .args .at) in
+    let count = head .line-head .result .count in
+    let count-is = ap (λ (h : LineHead). h .count) (head .line-head .ensures) in
+    let other = sym (c .before .are-constraints .ensures) ∙ not-true _ (c .if2 .taken) in (
+      ends-other constraints line count count-is (c .before .before .if1 .left) other,
+      s .pre .1 ∙ after-other constraints line count count-is other,
     )
 
 -- where all literals are on constraints, each is usable
@@ -108,18 +107,18 @@ returns-3 c =
     let constraints = constraintsFrom (s .args .file .now) (s .args .start) in
     let line = lineAt (s .args .file .now) (s .args .at) in
     let count-is = ap (λ (h : LineHead). h .count) (head .line-head .ensures) in
+    let all = sym (on .before .are-constraints .ensures) ∙ not-false _ (on .if2 .left) in
     let f : SFits w64 (bound .bound-of .result) = search needs in (
       rw (c .are-zero .ensures, toZ-ofZ f)
           (ends constraints line (head .line-head .result .count) count-is
           (on .before .before .if1 .left)
-          (sym (on .before .are-constraints .ensures) ∙ not-false _ (on .if2 .left))
+          all
           (lent .add-literals .last .0)
           (bound .bound-of .result)
           (lent .add-literals .ensures)
           (bound .bound-of .ensures)
           (λ j l. usable on j l .summable .limited .variables)),
-      rw (c .are-zero .ensures)
-          (ends-clear constraints line (head .line-head .result .count) count-is (lent .add-literals .last .0) _ (lent .add-literals .ensures)),
+      lent .add-literals .ensures ∙ after-all constraints line (head .line-head .result .count) count-is all,
     )
 
 pub arithmetic-ok-spec : {M : Type 1} → statement M

@@ -1,134 +1,108 @@
--- `certificate::lines_verdict` meets its contract: the lowest line at fault, then the parts, each way out in the paper's order.
+-- `certificate::lines_verdict` meets its contract. The loop's invariant: each line passed breaks no rule, and the sums are zero.
 -- Assumes nothing.
-use mathlib.Core.Path.{_≡_, sym, _∙_, ap}
-use Prim.Native.Nat.{ℕ, _+_, _*_, _≤_}
+use mathlib.Core.Path.{_≡_, refl, sym, _∙_, ap}
+use mathlib.Core.Bool.{true}
+use Prim.Native.Nat.{ℕ, _+_, _-_, _<_, _≤_}
 use native.Mathlib.Omega.{arith}
-use borrow.Author.Tests.{not-true, not-false}
-use denote.Ref.{now}
-use lib.ListN.{length}
-use Rattle.answers.specs.declared.Found.the-variants.{Nothing}
-use Rattle.answers.specs.declared.Place.the-variants.{Line as AtLine}
-use Rattle.answers.specs.Answer.{accepted, refused}
-use Rattle.answers.specs.Checks.{lowest}
-use Rattle.answers.proofs.Lowest.{first}
-use Rattle.node.specs.Layout.{propertyOf}
-use Rattle.constraints.specs.declared.layout.Trailer.{Trailer}
-use Rattle.constraints.specs.Layout.{trailerOf, lineOf}
-use Rattle.rules.specs.Lines.{hasEmpty, baseWindow, stepWindow}
-use Rattle.rules.specs.Verdict.{linePasses, linesVerdict}
-use Rattle.certificate.proofs.PartFacts.{empty-base, empty-step}
+use borrow.Author.Count.{below-none, below-more}
 use borrow.Author.Needs.{needs}
+use borrow.Author.Tests.{eq-eqb, ne-eqb}
+use denote.Ref.{now}
+use lib.IntN.{pos}
+use lib.ListN.{length, replicate, length-replicate}
+use Rattle.answers.specs.declared.Place.the-variants.{Line as AtLine}
+use Rattle.answers.specs.Answer.{refused}
+use Rattle.answers.specs.Checks.{lowest}
+use Rattle.answers.proofs.Lowest.{none, found}
+use Rattle.constraints.specs.declared.layout.Trailer.{Trailer}
+use Rattle.rules.specs.Verdict.{linePasses, linesVerdict}
 use Rattle.certificate.proofs.checker.lines_verdict.Statement.{statement}
 use Rattle.certificate.proofs.checker.lines_verdict.Tie as tie
 
-first-bad-requires : tie.Need-first-bad-requires
-first-bad-requires c κs = search needs
+abbrev Inv-loop : tie.InvT-loop
+Inv-loop node cert sorts t n property lines sums₀ i₀ sums i =
+    (i ≤ lines) × ((j : ℕ) → j < i → linePasses node cert j ≡ true) × (lines ≡ t .base + t .step) × (sums ≡ replicate 576 (pos 0))
 
-enum-known-i : tie.Need-enum-known-i
-enum-known-i c = search needs
+abbrev μ-loop : tie.MeasureT-loop
+μ-loop node cert sorts t n property lines sums₀ i₀ sums i = lines - i
 
-found-is : (c : tie.After-first-bad) → let a = c .before .before .before .before .args in let u = trailerOf (now (a .cert)) in lowest (linePasses (now (a .node)) (now (a .cert))) (u .base + u .step) ≡ c .first-bad .result
-found-is c =
-    let s = c .before .before .before .before in
-    ap (λ (u : Trailer). lowest (linePasses (now (s .args .node)) (now (s .args .cert))) (u .base + u .step)) (sym (s .pre .trailer))
-    ∙ sym (c .first-bad .ensures)
+cast-lines : tie.Need-cast-lines Inv-loop μ-loop
+cast-lines c = search needs
 
-none-found : (c : tie.After-enum-told) → let a = c .before .before .before .before .before .before .args in let u = trailerOf (now (a .cert)) in lowest (linePasses (now (a .node)) (now (a .cert))) (u .base + u .step) ≡ Nothing
-none-found c = found-is (c .before .before) ∙ c .enum-told .given .1
+cast-lines-2 : tie.Need-cast-lines-2 Inv-loop μ-loop
+cast-lines-2 c = search needs
 
--- all lines lie within the file
-fits : (c : tie.After-lines-start) → let a = c .before .before .before .before .before .before .before .args in c .lines-start .result + 80 * (a .t .base + a .t .step) ≤ length (now (a .cert))
-fits c =
-    let s = c .before .before .before .before .before .before .before in
-    let base = ap (λ (u : Trailer). u .base) (s .pre .trailer) in
-    let step = ap (λ (u : Trailer). u .step) (s .pre .trailer) in
-    omega (arith, c .lines-start .ensures, s .pre .ready .room, base, step)
+add-lines : tie.Need-add-lines Inv-loop μ-loop
+add-lines c = search needs
 
--- the searches for an empty line are the definition's
-base-is : (c : tie.After-has-empty) → let a = c .before .before .before .before .before .before .before .before .before .before .args in let u = trailerOf (now (a .cert)) in hasEmpty (lineOf (now (a .cert))) (baseWindow (u .depth) (propertyOf (now (a .node))) (u .base)) ≡ c .has-empty .result
-base-is c =
-    let s = c .before .before .before .before .before .before .before .before .before .before in
-    let cert = now (s .args .cert) in
-    sym
-    (c .has-empty .ensures
-    ∙ empty-base cert _ (c .before .before .before .lines-start .ensures) (trailerOf cert .depth) (propertyOf (now (s .args .node))) (s .args .t .base)
-    ∙ ap (λ (u : Trailer). hasEmpty (lineOf cert) (baseWindow (trailerOf cert .depth) (propertyOf (now (s .args .node))) (u .base))) (s .pre .trailer))
+loop-holds : tie.Need-loop-holds Inv-loop μ-loop
+loop-holds c = (search needs, below-none _, refl, refl)
 
-step-is : (c : tie.After-has-empty2) → let a = c .before .before .before .before .before .before .before .before .before .before .before .before .args in let u = trailerOf (now (a .cert)) in hasEmpty (lineOf (now (a .cert))) (stepWindow (u .depth) (propertyOf (now (a .node))) (u .base) (u .step)) ≡ c .has-empty2 .result
-step-is c =
-    let s = c .before .before .before .before .before .before .before .before .before .before .before .before in
-    let cert = now (s .args .cert) in
-    sym
-    (c .has-empty2 .ensures
-    ∙ empty-step cert _ (c .before .before .before .before .before .lines-start .ensures) (trailerOf cert .depth) (propertyOf (now (s .args .node))) (s .args .t .base) (s .args .t .step)
-    ∙ ap (λ (u : Trailer). hasEmpty (lineOf cert) (stepWindow (trailerOf cert .depth) (propertyOf (now (s .args .node))) (u .base) (u .step))) (s .pre .trailer))
+slice-aggregate-line-fault : tie.Need-slice-aggregate-line-fault Inv-loop μ-loop
+slice-aggregate-line-fault c = sym (ap length (c .before .before .loop .inv .3) ∙ length-replicate 576 (pos 0))
 
-broken-rule-requires : tie.Need-broken-rule-requires
-broken-rule-requires c κs =
-    (c .before .before .before .before .before .before .before .pre, first _ _ _ (sym (c .before .before .before .first-bad .ensures) ∙ c .before .i .given .1) .below)
+line-fault-requires : tie.Need-line-fault-requires Inv-loop μ-loop
+line-fault-requires c κs =
+    let turn = c .before in
+    let inv = turn .before .loop .inv in
+    (turn .before .before .before .before .before .before .before .pre, ((turn .loop-test .taken, inv .1), inv .3))
 
-returns : tie.Need-returns
+returns : tie.Need-returns Inv-loop μ-loop
 unfolding linesVerdict
 returns c =
-    rw (found-is (c .before .before .before .before) ∙ c .before .before .i .given .1)
-    (ap (λ (k : ℕ). refused k (AtLine (c .before .before .i .given .0 .0))) (c .broken-rule .ensures))
-
-enum-told : tie.Need-enum-told
-enum-told c = search needs
-
-lines-start-requires : tie.Need-lines-start-requires
-lines-start-requires c κs = search needs
-
-cast-base : tie.Need-cast-base
-cast-base c = search needs
-
-cast-step : tie.Need-cast-step
-cast-step c = search needs
-
-has-empty-requires : tie.Need-has-empty-requires
-has-empty-requires c κs = omega (arith, fits (c .before .before))
-
-returns-2 : tie.Need-returns-2
-unfolding linesVerdict
-returns-2 c = rw (none-found (c .before .before .before .before .before), base-is (c .before) ∙ not-true _ (c .if1 .taken))
-
-has-empty-requires-2 : tie.Need-has-empty-requires-2
-has-empty-requires-2 c κs = fits (c .before .before .before .before)
-
-returns-3 : tie.Need-returns-3
-unfolding linesVerdict
-returns-3 c =
+    let tested = c .before .before in
+    let turn = tested .before .before in
+    let s = turn .before .before .before .before .before .before .before in
+    let inv = turn .before .loop .inv in
     rw
-    (none-found (c .before .before .before .before .before .before .before), base-is (c .before .before .before) ∙ not-false _ (c .before .before .if1 .left), step-is (c .before) ∙ not-true _ (c .if2 .taken))
+    (ap (λ (u : Trailer). lowest (linePasses (now (s .args .node)) (now (s .args .cert))) (u .base + u .step)) (sym (s .pre .trailer))
+    ∙ found _ _ (turn .before .loop .i) (omega (arith, inv .2, turn .loop-test .taken)) (inv .1) (ne-eqb _ _ (λ e. c .if1 .taken (tested .line-fault .ensures .0 ∙ e))))
+    (ap (λ (k : ℕ). refused k (AtLine (turn .before .loop .i))) (tested .line-fault .ensures .0))
 
-cast-depth : tie.Need-cast-depth
-cast-depth c = search needs
+add-i : tie.Need-add-i Inv-loop μ-loop
+add-i c = search needs
 
-returns-4 : tie.Need-returns-4
-unfolding linesVerdict
-returns-4 c =
-    rw (
-      none-found (c .before .before .before .before .before .before .before .before),
-      base-is (c .before .before .before .before) ∙ not-false _ (c .before .before .before .if1 .left),
-      step-is (c .before .before) ∙ not-false _ (c .before .if2 .left),
+loop-less : tie.Need-loop-less Inv-loop μ-loop
+loop-less c = search needs
+
+loop-again : tie.Need-loop-again Inv-loop μ-loop
+loop-again c =
+    let tested = c .before .before in
+    let inv = tested .before .before .before .loop .inv in (
+      search needs,
+      below-more _ _ (inv .1) (eq-eqb _ _ (sym (tested .line-fault .ensures .0) ∙ c .if1 .left)),
+      inv .2,
+      tested .line-fault .ensures .1 (c .if1 .left),
     )
-    (ap (λ (u : Trailer). accepted (record { depth = u .depth; base = u .base; step = u .step })) (c .before .before .before .before .before .before .before .before .before .before .before .before .before .before .pre .trailer))
+
+parts-verdict-requires : tie.Need-parts-verdict-requires Inv-loop μ-loop
+parts-verdict-requires c κs = search needs
+
+returns-2 : tie.Need-returns-2 Inv-loop μ-loop
+unfolding linesVerdict
+returns-2 c =
+    let at = c .before .before in
+    let s = at .before .before .before .before .before .before in
+    rw
+    (ap (λ (u : Trailer). lowest (linePasses (now (s .args .node)) (now (s .args .cert))) (u .base + u .step)) (sym (s .pre .trailer))
+    ∙ none _ _ (λ j l. at .loop .inv .1 j (omega (arith, at .loop .inv .2, c .before .loop-test .left))))
+    (c .parts-verdict .ensures)
 
 pub lines-verdict-spec : {M : Type 1} → statement M
 lines-verdict-spec =
     tie.close
     (tie.spec
-    first-bad-requires
-    enum-known-i
-    broken-rule-requires
+    Inv-loop
+    μ-loop
+    cast-lines
+    cast-lines-2
+    add-lines
+    loop-holds
+    slice-aggregate-line-fault
+    line-fault-requires
     returns
-    enum-told
-    lines-start-requires
-    cast-base
-    cast-step
-    has-empty-requires
-    returns-2
-    has-empty-requires-2
-    returns-3
-    cast-depth
-    returns-4)
+    add-i
+    loop-less
+    loop-again
+    parts-verdict-requires
+    returns-2)

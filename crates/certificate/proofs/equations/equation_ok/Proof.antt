@@ -1,7 +1,7 @@
 -- `certificate::equation_ok` meets its contract: the clause that is looked up is that of the stream and offset that were read.
 -- Assumes nothing.
 use mathlib.Core.Path.{_≡_, sym, _∙_, ap}
-use mathlib.Core.Bool.{Bool, true, _&&_}
+use mathlib.Core.Bool.{true, _&&_}
 use mathlib.Core.List.{List}
 use Prim.Native.Nat.{ℕ, _-_, _<_}
 use native.Mathlib.Omega.{arith}
@@ -15,6 +15,7 @@ use Rattle.constraints.specs.declared.layout.LineHead.{LineHead}
 use Rattle.constraints.specs.Layout.{lineHeadAt, lineAt}
 use Rattle.constraints.specs.Linear.{variable}
 use Rattle.rules.specs.declared.pattern.Named.{Named}
+use Rattle.rules.specs.declared.pattern.Place.{Place}
 use Rattle.rules.specs.Clauses.{clauses, numbered}
 use Rattle.rules.specs.Lines.{placeOf, literalsAre, equationIn}
 use Rattle.clauses.specs.Limits.{SmallClause}
@@ -38,20 +39,20 @@ q-below : (c : tie.Else1) → c .before .before .before .line-head .result .q < 
 q-below c = ltb-true _ _ (passed c .1)
 
 -- the clause that a line's head names
-abbrev named : List ℕ → Bool → LineHead → Named
-named node isBase h =
-    numbered (clauses (kindAt node (h .p)) (equationAt node (h .p)) (placeOf isBase (h .q)) (variable (h .q)) (variable (h .q - 1)) (variable (h .q) (h .p))) (h .r)
+abbrev named : List ℕ → Place → LineHead → Named
+named node opening h =
+    numbered (clauses (kindAt node (h .p)) (equationAt node (h .p)) (placeOf opening (h .q)) (variable (h .q)) (variable (h .q - 1)) (variable (h .q) (h .p))) (h .r)
 
-named-is : (c : tie.After-clause-of) → let a = c .before .before .before .before .before .before .before .before .before .before .args in c .clause-of .result ≡ named (now (a .node)) (a .«is-base») (c .before .before .before .before .before .before .before .line-head .result)
+named-is : (c : tie.After-clause-of) → let a = c .before .before .before .before .before .before .before .before .before .before .args in c .clause-of .result ≡ named (now (a .node)) (a .opening) (c .before .before .before .before .before .before .before .line-head .result)
 named-is c =
     let counted = c .before .before .before .before .before .before .before .before .before .before .pre .1 .2 in
     c .clause-of .ensures
     ∙ rw (c .before .equation-among .ensures ∙ equation-among _ _ counted _, c .before .before .kind-among .ensures ∙ kind-among _ _ counted _, c .before .before .before .place-of .ensures)
 
-looked-up : (c : tie.After-clause-of) → let a = c .before .before .before .before .before .before .before .before .before .before .args in named (now (a .node)) (a .«is-base») (lineHeadAt (now (a .cert)) (a .at)) ≡ c .clause-of .result
+looked-up : (c : tie.After-clause-of) → let a = c .before .before .before .before .before .before .before .before .before .before .args in named (now (a .node)) (a .opening) (lineHeadAt (now (a .cert)) (a .at)) ≡ c .clause-of .result
 looked-up c =
     let a = c .before .before .before .before .before .before .before .before .before .before .args in
-    ap (named (now (a .node)) (a .«is-base»)) (sym (c .before .before .before .before .before .before .before .line-head .ensures)) ∙ sym (named-is c)
+    ap (named (now (a .node)) (a .opening)) (sym (c .before .before .before .before .before .before .before .line-head .ensures)) ∙ sym (named-is c)
 
 small : (c : tie.After-c) → SmallClause (c .c .given .0 .0)
 small c =
@@ -59,10 +60,10 @@ small c =
     let h = c .before .before .before .before .before .before .before .before .before .line-head .result in
     let node = now (s .args .node) in
     small-named
-    (clauses (kindAt node (h .p)) (equationAt node (h .p)) (placeOf (s .args .«is-base») (h .q)) (variable (h .q)) (variable (h .q - 1)) (variable (h .q) (h .p)))
+    (clauses (kindAt node (h .p)) (equationAt node (h .p)) (placeOf (s .args .opening) (h .q)) (variable (h .q)) (variable (h .q - 1)) (variable (h .q) (h .p)))
     (h .r) (c .c .given .0 .0)
     (small-clauses (variable (h .q)) (variable (h .q - 1)) (variable (h .q) (h .p)) (kindAt node (h .p)) (equationAt node (h .p))
-    (placeOf (s .args .«is-base») (h .q)) (s .pre .1 .0 (h .p) (p-below (c .before .before .before .before .before .before))))
+    (placeOf (s .args .opening) (h .q)) (s .pre .1 .0 (h .p) (p-below (c .before .before .before .before .before .before))))
     (sym (named-is (c .before .before)) ∙ c .c .given .1)
 
 line-head-requires : tie.Need-line-head-requires

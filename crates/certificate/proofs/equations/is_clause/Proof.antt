@@ -91,7 +91,7 @@ returns-4 c =
     ends-at-two _ _ _ _ (passed (at .before .before)) (at .if2 .left) (second-is (past .before) ∙ not-false _ (past .if3 .left)) (c .if4 .taken)
 
 literal-at-requires-3 : tie.Need-literal-at-requires-3
-literal-at-requires-3 c κs = search needs
+literal-at-requires-3 c κs = (c .before .before .before .before .before .before .before .before .before .before .before .before .before .before .pre .0 .1, omega arith)
 
 matches-requires-3 : tie.Need-matches-requires-3
 matches-requires-3 c κs = let s = c .before .before .before .before .before .before .before .before .before .before .before .before .before .before .before in (s .pre .0 .0, s .pre .1 .2)

@@ -1,17 +1,14 @@
--- `certificate::place_of` meets its contract: past the first offset, or by the part.
+-- `certificate::place_of` meets its contract: the first offset, or past it.
 -- Assumes nothing.
 use borrow.Author.Tests.{eq-eqb, ne-eqb}
 use Rattle.certificate.proofs.equations.place_of.Statement.{statement}
 use Rattle.certificate.proofs.equations.place_of.Tie as tie
 
 returns : tie.Need-returns
-returns c = rw (ne-eqb _ _ (c .if1 .taken))
+returns c = rw (eq-eqb _ _ (c .if1 .taken))
 
 returns-2 : tie.Need-returns-2
-returns-2 c = rw (eq-eqb _ _ (c .before .if1 .left), c .if2 .taken)
-
-returns-3 : tie.Need-returns-3
-returns-3 c = rw (eq-eqb _ _ (c .before .if1 .left), c .if2 .left)
+returns-2 c = rw (ne-eqb _ _ (c .if1 .left))
 
 pub place-of-spec : {M : Type 1} → statement M
-place-of-spec = tie.close (tie.spec returns returns-2 returns-3)
+place-of-spec = tie.close (tie.spec returns returns-2)

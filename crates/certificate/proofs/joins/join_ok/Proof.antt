@@ -63,28 +63,33 @@ mul-is-join-2 c = search needs
 add-is-join-2 : tie.Need-add-is-join-2
 add-is-join-2 c = search needs
 
+cast-t21 : tie.Need-cast-t21
+cast-t21 c = search needs
+
 is-join-requires : tie.Need-is-join-requires
 is-join-requires c κs =
-    let asked = c .before .before .before .before .before .pre in
-    let h = c .before .before .before .line-head .result in (
-      (omega (arith, asked .room, p-lower c), omega (arith, asked .room, q-lower c), omega (arith, asked .room)),
+    let past = c .before in
+    let asked = past .before .before .before .before .before .pre in
+    let h = past .before .before .before .line-head .result in (
+      (omega (arith, asked .room, p-lower past), omega (arith, asked .room, q-lower past), omega (arith, asked .room)),
       (
-        asked .counts (h .p) (omega (arith, p-lower c)),
-        asked .counts (h .q) (omega (arith, q-lower c)),
-        asked .counts (c .before .before .before .before .before .args .i) (omega arith),
+        asked .counts (h .p) (omega (arith, p-lower past)),
+        asked .counts (h .q) (omega (arith, q-lower past)),
+        asked .counts (past .before .before .before .before .before .args .i) (omega arith),
       ),
     )
 
 returns-2 : tie.Need-returns-2
 unfolding joinOk
 returns-2 c =
-    let a = c .before .before .before .before .before .before .args in
+    let past = c .before .before in
+    let a = past .before .before .before .before .before .args in
     let s = now (a .file) in
     let at = a .lines in
     c .is-join .ensures
-    ∙ rw (lower-is (c .before .before) ∙ not-false _ (c .before .if1 .left))
+    ∙ rw (lower-is (past .before) ∙ not-false _ (past .if1 .left))
     (ap (λ (h : LineHead). joins (linesAt s at (h .p)) (linesAt s at (h .q)) (h .r) (linesAt s at (a .i)))
-    (c .before .before .before .before .line-head .ensures))
+    (past .before .before .before .line-head .ensures))
 
 pub join-ok-spec : {M : Type 1} → statement M
 join-ok-spec =
@@ -100,5 +105,6 @@ join-ok-spec =
     add-is-join
     mul-is-join-2
     add-is-join-2
+    cast-t21
     is-join-requires
     returns-2)

@@ -5,6 +5,7 @@ use Prim.Native.Nat.{_+_, _<_}
 use denote.Ref.{now}
 use Rattle.constraints.specs.Layout.{trailerOf, constraintOf}
 use Rattle.rules.specs.Arithmetic.{arithmeticOk}
+use Rattle.arithmetic.proofs.Deciding.{passed-clear}
 use Rattle.certificate.proofs.LineFacts.{line-checkable}
 use Rattle.certificate.proofs.Settings.{line-is}
 use borrow.Author.Needs.{needs}
@@ -46,7 +47,7 @@ returns c =
       summed .arithmetic-ok .ensures .0
           ∙ rw (read .before .start-of .ensures, read .lines-start .ensures)
           (ap (arithmeticOk (constraintOf (now (s .args .cert)))) (sym (line-is (now (s .args .cert)) (s .args .i)))),
-      summed .arithmetic-ok .ensures .1,
+      λ e. summed .arithmetic-ok .ensures .1 ∙ passed-clear _ _ (sym (summed .arithmetic-ok .ensures .0) ∙ e),
     )
 
 pub arithmetic-passes-spec : {M : Type 1} → statement M

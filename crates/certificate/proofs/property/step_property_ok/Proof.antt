@@ -1,8 +1,10 @@
 -- `certificate::step_property_ok` meets its contract: at the last offset the property is negated, before it is not.
 -- Assumes nothing.
 use mathlib.Core.Path.{_≡_, sym, _∙_, ap}
-use borrow.Author.Tests.{eq-eqb, ne-eqb}
+use mathlib.Core.Bool.{true}
+use borrow.Author.Tests.{eq-eqb, ne-eqb, le-leb, lt-leb}
 use denote.Ref.{now}
+use lib.Dec.{leb}
 use Rattle.constraints.specs.declared.layout.LineHead.{LineHead}
 use Rattle.constraints.specs.Layout.{lineHeadAt}
 use Rattle.rules.specs.Lines.{stepPropertyOk}
@@ -10,51 +12,66 @@ use borrow.Author.Needs.{needs}
 use Rattle.certificate.proofs.property.step_property_ok.Statement.{statement}
 use Rattle.certificate.proofs.property.step_property_ok.Tie as tie
 
+q-is : (c : tie.After-line-head) → let a = c .before .before .args in lineHeadAt (now (a .file)) (a .at) .q ≡ c .line-head .result .q
+q-is c = ap (λ (h : LineHead). h .q) (sym (c .line-head .ensures))
+
+low : (c : tie.Else1) → let a = c .before .before .before .before .args in leb (lineHeadAt (now (a .file)) (a .at) .q) (a .k) ≡ true
+low c =
+    let a = c .before .before .before .before .args in
+    le-leb (lineHeadAt (now (a .file)) (a .at) .q) (a .k) (rw (q-is (c .before .before)) (c .if1 .left))
+
 line-head-requires : tie.Need-line-head-requires
 line-head-requires c κs = search needs
-
-cast-q : tie.Need-cast-q
-cast-q c = search needs
-
-literal-at-requires : tie.Need-literal-at-requires
-literal-at-requires c κs = search needs
-
-cast-literal : tie.Need-cast-literal
-cast-literal c = search needs
-
-mul-atom : tie.Need-mul-atom
-mul-atom c = search needs
-
-add-atom : tie.Need-add-atom
-add-atom c = search needs
-
-mul-result : tie.Need-mul-result
-mul-result c = search needs
-
-add-result : tie.Need-add-result
-add-result c = search needs
-
-q-is : (c : tie.After-literal-at) → let a = c .before .before .before .before .args in lineHeadAt (now (a .file)) (a .at) .q ≡ c .before .before .line-head .result .q
-q-is c = ap (λ (h : LineHead). h .q) (sym (c .before .before .line-head .ensures))
 
 returns : tie.Need-returns
 unfolding stepPropertyOk
 returns c =
-    let read = c .before .before in
-    rw
-    (eq-eqb _ _ (q-is read ∙ c .before .if1 .taken), read .before .before .line-head .ensures, read .literal-at .ensures)
+    let a = c .before .before .before .before .args in
+    rw (lt-leb (lineHeadAt (now (a .file)) (a .at) .q) (a .k) (rw (q-is (c .before .before)) (c .if1 .taken)))
 
-mul-result-2 : tie.Need-mul-result-2
-mul-result-2 c = search needs
+cast-var : tie.Need-cast-var
+cast-var c = search needs
+
+var-requires : tie.Need-var-requires
+var-requires c κs = search needs
+
+literal-at-requires : tie.Need-literal-at-requires
+literal-at-requires c κs = search needs
+
+negative-requires : tie.Need-negative-requires
+negative-requires c κs = search needs
 
 returns-2 : tie.Need-returns-2
 unfolding stepPropertyOk
 returns-2 c =
-    let read = c .before .before in
+    let read = c .before .before .before .before .before .before in
+    let past = read .before .before .before in
+    let head = past .before .before in
     rw (
-      ne-eqb _ _ (λ e. c .before .if1 .left (sym (q-is read) ∙ e)),
-      read .before .before .line-head .ensures,
+      low past,
+      eq-eqb _ _ (q-is head ∙ c .before .before .before .before .if2 .taken),
+      c .before .before .negative .ensures,
+      read .before .var .ensures,
       read .literal-at .ensures,
+      head .line-head .ensures,
+    )
+
+positive-requires : tie.Need-positive-requires
+positive-requires c κs = search needs
+
+returns-3 : tie.Need-returns-3
+unfolding stepPropertyOk
+returns-3 c =
+    let read = c .before .before .before .before .before .before in
+    let past = read .before .before .before in
+    let head = past .before .before in
+    rw (
+      low past,
+      ne-eqb _ _ (λ e. c .before .before .before .before .if2 .left (sym (q-is head) ∙ e)),
+      c .before .before .positive .ensures,
+      read .before .var .ensures,
+      read .literal-at .ensures,
+      head .line-head .ensures,
     )
 
 pub step-property-ok-spec : {M : Type 1} → statement M
@@ -62,13 +79,11 @@ step-property-ok-spec =
     tie.close
     (tie.spec
     line-head-requires
-    cast-q
-    literal-at-requires
-    cast-literal
-    mul-atom
-    add-atom
-    mul-result
-    add-result
     returns
-    mul-result-2
-    returns-2)
+    cast-var
+    var-requires
+    literal-at-requires
+    negative-requires
+    returns-2
+    positive-requires
+    returns-3)

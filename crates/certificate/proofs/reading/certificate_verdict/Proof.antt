@@ -1,120 +1,75 @@
--- `certificate::certificate_verdict` meets its contract: each way out is the first failing rule of the file, or the verdict on what
--- it holds.
+-- `certificate::certificate_verdict` meets its contract: the opening's refusal, or the verdict on the lines.
 -- Assumes nothing.
-use mathlib.Core.Path.{_≡_, sym, _∙_, ap}
-use mathlib.Core.Bool.{true}
+use mathlib.Core.Path.{_≡_, sym, _∙_}
 use denote.Ref.{now}
-use lib.ListN.{length}
-use borrow.Author.Tests.{not-true, not-false}
-use Rattle.node.specs.Rules.{lengthOk}
-use Rattle.node.proofs.FileRules.{long-enough}
-use Rattle.constraints.specs.declared.layout.Trailer.{Trailer}
+use Prim.Native.Nat.{ℕ}
+use Rattle.answers.specs.Answer.{accepted, refused}
 use Rattle.constraints.specs.Layout.{trailerOf}
-use Rattle.constraints.specs.Rules.{fixedOk, countsOk, distanceOk}
-use Rattle.rules.specs.Verdict.{certificateVerdict}
-use Rattle.rules.proofs.FileFacts.{file-passed}
+use Rattle.constraints.specs.Rules.{sortsOf}
+use Rattle.rules.specs.Verdict.{sortsOfNode, fileVerdict}
+use Rattle.certificate.specs.declared.reading.Opened.the-variants.{Passed}
+use Rattle.certificate.specs.Checking.{openingOf}
+use Rattle.certificate.proofs.Openings.{counted-streams, node-sorts, unopened, file-accepted, checking}
 use borrow.Author.Needs.{needs}
 use Rattle.certificate.proofs.reading.certificate_verdict.Statement.{statement}
 use Rattle.certificate.proofs.reading.certificate_verdict.Tie as tie
 
-length-is : (c : tie.After-length-ok) → lengthOk (length (now (c .before .before .before .args .cert))) ≡ c .length-ok .result
-length-is c = sym (c .length-ok .ensures)
+sorts-of-requires : tie.Need-sorts-of-requires
+sorts-of-requires c κs = counted-streams _ _ _ (c .before .before .pre)
 
-fixed-is : (c : tie.After-fixed-ok) → fixedOk (trailerOf (now (c .before .before .before .before .before .before .args .cert))) ≡ c .fixed-ok .result
-fixed-is c = ap fixedOk (sym (c .before .trailer-of .ensures)) ∙ sym (c .fixed-ok .ensures)
+slice-aggregate-opening : tie.Need-slice-aggregate-opening
+slice-aggregate-opening c = search needs
 
-counts-is : (c : tie.After-counts-ok) → countsOk (trailerOf (now (c .before .before .before .before .before .before .before .before .args .cert))) ≡ c .counts-ok .result
-counts-is c = ap countsOk (sym (c .before .before .before .trailer-of .ensures)) ∙ sym (c .counts-ok .ensures)
+sorted : (c : tie.After-sorts-of) → (x : ℕ) → sortsOf (c .sorts-of .result) x ≡ sortsOfNode (now (c .before .before .before .args .node)) x
+sorted c = node-sorts _ (c .sorts-of .result) _ _ (c .before .before .before .pre) (c .sorts-of .ensures .1)
 
-distance-is : (c : tie.After-distance-ok) → let s = now (c .before .before .before .before .before .before .before .before .before .before .args .cert) in distanceOk (trailerOf s) (length s) ≡ c .distance-ok .result
-distance-is c =
-    ap (λ (t : Trailer). distanceOk t (length (now (c .before .before .before .before .before .before .before .before .before .before .args .cert)))) (sym (c .before .before .before .before .before .trailer-of .ensures))
-    ∙ sym (c .distance-ok .ensures)
+opening-requires : tie.Need-opening-requires
+opening-requires c κs = sorted (c .before)
 
-length-passes : (c : tie.Else1) → lengthOk (length (now (c .before .before .before .before .args .cert))) ≡ true
-length-passes c = length-is (c .before) ∙ not-false _ (c .if1 .left)
+enum-known-t : tie.Need-enum-known-t
+enum-known-t c = search needs
 
-length-ok-requires : tie.Need-length-ok-requires
-length-ok-requires c κs = search needs
+slice-aggregate-lines-verdict : tie.Need-slice-aggregate-lines-verdict
+slice-aggregate-lines-verdict c = search needs
+
+-- the opening has passed
+passed : (c : tie.After-t) → let a = c .before .before .before .before .before .before .before .args in Passed (c .t .given .0 .0) ≡ openingOf (trailerOf (now (a .cert))) (fileVerdict (now (a .node)) (now (a .cert)))
+passed c = sym (c .t .given .1) ∙ c .before .before .opening .ensures
+
+lines-verdict-requires : tie.Need-lines-verdict-requires
+lines-verdict-requires c κs =
+    let told = c .before .before in
+    let read = told .before .before .before .before in
+    checking _ _ _ _ _ _ (read .before .before .before .pre) (sorted read) (passed told)
+
+file-is : (c : tie.After-t) → let a = c .before .before .before .before .before .before .before .args in fileVerdict (now (a .node)) (now (a .cert)) ≡ accepted tt
+file-is c =
+    let read = c .before .before .before .before in
+    let s = read .before .before .before in
+    file-accepted (now (s .args .node)) (now (s .args .cert)) (read .sorts-of .result) _ _ _ (s .pre) (sorted read) (passed c)
+
+refused-is : (c : tie.After-number) → let a = c .before .before .before .before .before .before .before .args in fileVerdict (now (a .node)) (now (a .cert)) ≡ refused (c .number .given .0 .0) (c .number .given .0 .1 .0)
+refused-is c = unopened _ _ _ _ (sym (c .number .given .1) ∙ c .before .before .opening .ensures)
+
+enum-known-number : tie.Need-enum-known-number
+enum-known-number c = search needs
 
 returns : tie.Need-returns
-unfolding certificateVerdict
-returns c = rw (length-is (c .before) ∙ not-true _ (c .if1 .taken))
-
-trailer-of-requires : tie.Need-trailer-of-requires
-trailer-of-requires c κs = long-enough _ (length-passes c)
-
-fixed-ok-requires : tie.Need-fixed-ok-requires
-fixed-ok-requires c κs = search needs
+returns c = rw (file-is (c .before .before .before)) (c .lines-verdict .ensures)
 
 returns-2 : tie.Need-returns-2
-unfolding certificateVerdict
-returns-2 c = rw (length-passes (c .before .before .before), fixed-is (c .before) ∙ not-true _ (c .if2 .taken))
-
-counts-ok-requires : tie.Need-counts-ok-requires
-counts-ok-requires c κs = search needs
-
-returns-3 : tie.Need-returns-3
-unfolding certificateVerdict
-returns-3 c =
-    let two = c .before .before in
-    rw (length-passes (two .before .before .before), fixed-is (two .before) ∙ not-false _ (two .if2 .left), counts-is (c .before) ∙ not-true _ (c .if3 .taken))
-
-distance-ok-requires : tie.Need-distance-ok-requires
-distance-ok-requires c κs = search needs
-
-returns-4 : tie.Need-returns-4
-unfolding certificateVerdict
-returns-4 c =
-    let three = c .before .before in
-    let two = three .before .before in
-    rw (
-      length-passes (two .before .before .before),
-      fixed-is (two .before) ∙ not-false _ (two .if2 .left),
-      counts-is (three .before) ∙ not-false _ (three .if3 .left),
-      distance-is (c .before) ∙ not-true _ (c .if4 .taken),
-    )
-
-constraints-verdict-requires : tie.Need-constraints-verdict-requires
-constraints-verdict-requires c κs =
-    let three = c .before .before in
-    let two = three .before .before in
-    let read = two .before .before in (
-      read .before .before .before .before .before .pre,
-      record {
-        trailer = read .trailer-of .ensures;
-        file =
-            file-passed _ (length-passes (read .before)) (fixed-is (two .before) ∙ not-false _ (two .if2 .left))
-            (counts-is (three .before) ∙ not-false _ (three .if3 .left)) (distance-is (c .before) ∙ not-false _ (c .if4 .left));
-      },
-    )
-
-returns-5 : tie.Need-returns-5
-unfolding certificateVerdict
-returns-5 c =
-    let four = c .before in
-    let three = four .before .before in
-    let two = three .before .before in
-    rw (
-      length-passes (two .before .before .before),
-      fixed-is (two .before) ∙ not-false _ (two .if2 .left),
-      counts-is (three .before) ∙ not-false _ (three .if3 .left),
-      distance-is (four .before) ∙ not-false _ (four .if4 .left),
-    )
-    (c .constraints-verdict .ensures)
+returns-2 c = rw (refused-is (c .before))
 
 pub certificate-verdict-spec : {M : Type 1} → statement M
 certificate-verdict-spec =
     tie.close
     (tie.spec
-    length-ok-requires
+    sorts-of-requires
+    slice-aggregate-opening
+    opening-requires
+    enum-known-t
+    slice-aggregate-lines-verdict
+    lines-verdict-requires
+    enum-known-number
     returns
-    trailer-of-requires
-    fixed-ok-requires
-    returns-2
-    counts-ok-requires
-    returns-3
-    distance-ok-requires
-    returns-4
-    constraints-verdict-requires
-    returns-5)
+    returns-2)

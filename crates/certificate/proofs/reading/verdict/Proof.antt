@@ -6,7 +6,7 @@ use denote.Ref.{now}
 use Rattle.answers.specs.Answer.{accepted, refused, nodeAnswer}
 use Rattle.node.specs.Verdict.{verdictOf as nodeVerdict}
 use Rattle.node.proofs.FileRules.{sizes}
-use Rattle.rules.specs.Verdict.{verdictOf}
+use Rattle.rules.specs.Verdict.{beforeLines, verdictOf}
 use Rattle.certificate.proofs.Openings.{node-passed}
 use borrow.Author.Needs.{needs}
 use Rattle.certificate.proofs.reading.verdict.Statement.{statement}
@@ -37,11 +37,11 @@ enum-known-number : tie.Need-enum-known-number
 enum-known-number c = search needs
 
 returns : tie.Need-returns
-unfolding verdictOf
+unfolding verdictOf beforeLines
 returns c = rw (node-accepted (c .before)) (c .certificate-verdict .ensures)
 
 returns-2 : tie.Need-returns-2
-unfolding verdictOf
+unfolding verdictOf beforeLines
 returns-2 c = rw (node-refused c)
 
 pub verdict-spec : {M : Type 1} → statement M

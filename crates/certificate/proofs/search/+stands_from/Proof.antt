@@ -51,7 +51,7 @@ stands-from-returns-2 : (t : ℕ) → stands-from-lts.Need-returns-2 (
   stands-from.Post,
 ) (stands-from-at t) stands-from.Post
 stands-from-returns-2 t c =
-    let read = c .before .before in
+    let read = c .before .before .before in
     let a = read .before .before .before .args in
     sym
     (stands-step (literalAt (now (a .file)) (a .at)) (a .l .0) (a .j) (a .count) (read .before .if1 .left)
@@ -71,7 +71,7 @@ stands-from-stands-from-requires : (t : ℕ) → stands-from-lts.Need-stands-fro
   stands-from-below t,
   stands-from.Post,
 ) (stands-from-at t) stands-from.Post
-stands-from-stands-from-requires t c κs = omega (arith, c .before .before .before .before .before .pre, c .before .before .before .if1 .left)
+stands-from-stands-from-requires t c κs = omega (arith, c .before .before .before .before .before .before .pre, c .before .before .before .before .if1 .left)
 
 stands-from-returns-3 : (t : ℕ) → stands-from-lts.Need-returns-3 (
   literal-at-reads.Asked,
@@ -80,7 +80,7 @@ stands-from-returns-3 : (t : ℕ) → stands-from-lts.Need-returns-3 (
   stands-from.Post,
 ) (stands-from-at t) stands-from.Post
 stands-from-returns-3 t c =
-    let read = c .before .before .before in
+    let read = c .before .before .before .before in
     let a = read .before .before .before .args in
     c .stands-from .ensures
     ∙ sym

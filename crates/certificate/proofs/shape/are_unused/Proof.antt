@@ -37,7 +37,7 @@ loop-less c = search needs
 loop-again : tie.Need-loop-again Inv-loop μ-loop
 unfolding every unusedOk
 loop-again c =
-    (search needs, rw (add-one, c .before .before .before .loop .inv .1, c .before .literal-at .ensures, c .multiplier-at .ensures))
+    (search needs, rw (add-one, c .before .before .before .before .loop .inv .1, c .before .before .literal-at .ensures, c .before .multiplier-at .ensures))
 
 returns : tie.Need-returns Inv-loop μ-loop
 returns c =
