@@ -7,12 +7,14 @@ use Prim.Native.Nat.{ℕ, zero, suc, _<_, _≤_}
 use native.Mathlib.Omega.{arith}
 use borrow.Author.Tests.{leb-true, ltb-true, eqb-true}
 use lib.Dec.{leb, ltb, eqb}
-use lib.IntN.{ℤ, pos}
+use lib.IntN.{ℤ, pos, negℤ, natAbs}
 use lib.Signed.{leZ}
-use Rattle.integers.proofs.Order.{leZ-true, ≤ℤ-antisym}
+use Rattle.integers.proofs.Abs.{abs-≤}
+use Rattle.integers.proofs.Order.{leZ-true, ≤ℤ-trans, ≤ℤ-antisym}
 use Rattle.answers.proofs.Entries.{each}
 use Rattle.answers.proofs.Tests.{both-true}
 use Rattle.node.specs.declared.equation.Kind.{Kind}
+use Rattle.node.specs.declared.equation.Kind.the-variants.{Bool as BoolKind, Int as IntKind}
 use Rattle.node.specs.declared.equation.Equation.{Equation}
 use Rattle.node.specs.declared.equation.Equation.the-variants.{Input, Constant, Not, And, Or, Same, Sum, Difference, Multiple, AtMost, Equal, If, Arrow, FollowedBy}
 use Rattle.node.specs.declared.layout.Record.{Record}
@@ -105,6 +107,13 @@ constant-is : (limit : Limit) (kind : Kind) (k : ℤ) → InRange limit kind k �
 constant-is Zero kind k r = ≤ℤ-antisym (pos 0) k (r .0) (r .1)
 constant-is Value kind k r = refl
 constant-is Factor kind k r = refl
+
+-- "|K| is at most 1,000,000,000", whatever the limit and the type
+pub limited : (limit : Limit) (kind : Kind) (k : ℤ) → InRange limit kind k → natAbs k ≤ 1000000000
+limited Zero kind k h = rw (← (≤ℤ-antisym (pos 0) k (h .0) (h .1))) (omega arith)
+limited Value BoolKind k h = omega (arith, abs-≤ 1 k .1 (≤ℤ-trans (negℤ (pos 1)) (pos 0) k (leZ-true (negℤ (pos 1)) (pos 0) .0 refl) (h .0), h .1))
+limited Value IntKind k h = abs-≤ 1000000000 k .1 h
+limited Factor kind k h = abs-≤ 1000000000 k .1 h
 
 byte-is : (byte : ℕ) → byte ≤ 1 → byteOf (kindOf byte) ≡ byte
 byte-is zero l = refl

@@ -1,22 +1,21 @@
 -- Where the records of a file lie, and that they are those read by their count.
 -- Assumes nothing.
-use mathlib.Core.Path.{_≡_, refl, ap}
+use mathlib.Core.Path.{_≡_, refl}
 use mathlib.Core.Bool.{Bool, true, false, cond, _&&_}
 use mathlib.Core.List.{List}
-use Prim.Native.Nat.{ℕ, _+_, _*_, _<_, _≤_, _^_}
+use Prim.Native.Nat.{ℕ, _<_, _≤_, _^_}
 use native.Mathlib.Nat.{not-suc-le-zero}
 use native.Mathlib.Omega.{arith}
-use borrow.Author.Tests.{leb-true, ltb-true, le-leb}
-use lib.Dec.{leb, ltb}
+use borrow.Author.Tests.{leb-true}
+use lib.Dec.{leb}
 use lib.ListN.{length}
 use Rattle.answers.proofs.Tests.{both-true}
-use Rattle.node.specs.declared.layout.Record.{Record}
-use Rattle.node.specs.Equations.{kindOf, kindAt, decoded, equationAt, kindAmong, equationAmong}
-use Rattle.node.specs.Inputs.{isInputEquation, isInput, isInputAmong}
-use Rattle.node.specs.Layout.{recordAt, recordsOf, streamsOf, sizeOf, startOf, emptyRecord, recordOf, typeOf, recordAmong, typeAmong}
+use Rattle.node.specs.Equations.{kindAt, equationAt, kindAmong, equationAmong}
+use Rattle.node.specs.Inputs.{isInput, isInputAmong}
+use Rattle.node.specs.Layout.{recordsOf, streamsOf, sizeOf, recordOf, typeOf, recordAmong, typeAmong}
 
 -- a file that has a record has room for all n and the trailer
-pub records-fit : (s : List ℕ) (i : ℕ) → i < recordsOf s → sizeOf (recordsOf s) ≤ length s
+records-fit : (s : List ℕ) (i : ℕ) → i < recordsOf s → sizeOf (recordsOf s) ≤ length s
 unfolding recordsOf
 records-fit s i = go (leb 16 (length s) && leb (sizeOf (streamsOf s)) (length s)) refl
   where
@@ -28,25 +27,19 @@ records-fit s i = go (leb 16 (length s) && leb (sizeOf (streamsOf s)) (length s)
 pub records-few : (s : List ℕ) (i : ℕ) → i < recordsOf s → length s < 2 ^ 64 → i < 2 ^ 60
 records-few s i l h = omega (arith, records-fit s i l)
 
--- records read by a count: they are the file's where the count is
+-- what is read by a count is the file's where the count is
 module _ (s : List ℕ) (n : ℕ) (e : n ≡ recordsOf s) (i : ℕ) where
   pub record-among : recordAmong s n i ≡ recordOf s i
-  unfolding recordOf recordAmong
-  record-among = rw e (go (ltb i (recordsOf s)) refl)
-    where
-      go : (b : Bool) → ltb i (recordsOf s) ≡ b → cond (b && leb (sizeOf (recordsOf s)) (length s)) (recordAt s (startOf s + 16 * i)) emptyRecord ≡ cond b (recordAt s (startOf s + 16 * i)) emptyRecord
-      go true f = rw (le-leb _ _ (records-fit s i (ltb-true _ _ f)))
-      go false f = refl
+  record-among = rw e
 
   pub type-among : typeAmong s n i ≡ typeOf s i
-  type-among = ap (λ (r : Record). r .kind) record-among
+  type-among = rw e
 
   pub kind-among : kindAmong s n i ≡ kindAt s i
-  unfolding kindAt kindAmong
-  kind-among = ap kindOf type-among
+  kind-among = rw e
 
   pub equation-among : equationAmong s n i ≡ equationAt s i
-  equation-among = ap decoded record-among
+  equation-among = rw e
 
   pub is-input-among : isInputAmong s n i ≡ isInput s i
-  is-input-among = ap isInputEquation equation-among
+  is-input-among = rw e

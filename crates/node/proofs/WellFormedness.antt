@@ -15,7 +15,7 @@ use Rattle.node.specs.declared.table.Operand.the-variants.{Unused, Now, 
 use Rattle.node.specs.declared.table.Row.{Row}
 use Rattle.node.specs.declared.table.Wanted.{Wanted}
 use Rattle.node.specs.declared.table.Wanted.the-variants.{ABool, AnInt, Own}
-use Rattle.node.specs.Equations.{kindOf, kindAt, decoded, encoded}
+use Rattle.node.specs.Equations.{kindOf, kindAmong, kindAt, decoded, encoded}
 use Rattle.node.specs.Layout.{streamsOf, recordOf, typeOf}
 use Rattle.node.specs.Outcome.{NodeRules}
 use Rattle.node.specs.Reads.{reading, rowReads, rowFor, reads, wantedKind, All, ReadOk, InRange, WellFormedFile}
@@ -87,7 +87,7 @@ module _ (s : List ℕ) (rules : NodeRules s) (i : ℕ) (l : i < streamsOf s) wh
   of-equation P = by-record P r (rules .shapes i l)
 
 pub well-formed : (s : List ℕ) → NodeRules s → WellFormedFile s
-unfolding kindAt propertyOk reads rowFor
+unfolding kindAmong propertyOk reads rowFor
 well-formed s rules =
     record {
       operands = λ i l. of-equation s rules i l (λ x. All (ReadOk (streamsOf s) (kindAt s) i) (rowReads (rowOf (x .op)) x)) (operands-ok s rules i l);

@@ -2,7 +2,7 @@
 -- the same records.
 -- Assumes nothing.
 use mathlib.Core.Path.{_≡_, sym, _∙_, ap, ap₂, fun-ext}
-use mathlib.Core.Bool.{cond}
+use mathlib.Core.Bool.{true, cond, _&&_}
 use mathlib.Core.List.{List}
 use Prim.Native.Nat.{ℕ, _+_, _-_, _≤_}
 use native.Mathlib.Nat.{add-assoc}
@@ -16,11 +16,11 @@ use Rattle.node.specs.declared.layout.Trailer.{Trailer}
 use Rattle.node.specs.declared.layout.Record.{Record}
 use Rattle.node.specs.declared.reading.RecordRule.{RecordRule}
 use Rattle.node.specs.declared.reading.RecordRule.the-variants.{Shape, Operands, Types}
-use Rattle.node.specs.Layout.{trailerAt, trailerOf, recordAt, streamsOf, propertyOf, sizeOf, recordsOf, emptyRecord, recordOf, typeOf}
+use Rattle.node.specs.Layout.{trailerAt, trailerOf, recordAt, streamsOf, propertyOf, sizeOf, recordsOf, emptyRecord, recordAmong, recordOf, typeOf}
 use Rattle.node.specs.Outcome.{FileRules, NodeRules, AllKeep}
 use Rattle.node.specs.Rules.{lengthOk, fixedOk, countsOk, distanceOk, shapeOk, operandsOk, typesOk, propertyOk}
 use Rattle.node.specs.Verdict.{passesOf, verdictOf}
-use Rattle.node.specs.Equations.{kindOf, kindAt, decoded, equationAt}
+use Rattle.node.specs.Equations.{kindOf, kindAmong, kindAt, decoded, equationAt}
 use Rattle.node.specs.Note.{noteLength, withoutNote}
 use Rattle.node.proofs.FileRules.{Sizes, sizes}
 use Rattle.node.proofs.Notes.{accepted-room, note-is}
@@ -59,10 +59,10 @@ module _ (s : List ℕ) (rules : NodeRules s) (k : ℕ) (left : k + sizeOf (stre
   records-is = rw (streams-is, le-leb 16 (length rest) (omega (arith, size)), le-leb (sizeOf (streamsOf s)) (length rest) (omega (arith, size)))
 
   record-is : (i : ℕ) → recordOf rest i ≡ recordOf s i
-  unfolding recordOf
+  unfolding recordAmong
   record-is i =
-      rw (records-is, whole .records)
-      (ap (λ (r : Record). cond (ltb i (streamsOf s)) r emptyRecord)
+      rw (records-is, whole .records, le-leb (sizeOf (streamsOf s)) (length rest) (omega (arith, size)), le-leb _ _ (whole .room))
+      (ap (λ (r : Record). cond (ltb i (streamsOf s) && true) r emptyRecord)
       (record-on k s _ ∙ ap (recordAt s) (omega (arith, size))))
 
   passes-is : (rule : RecordRule) (i : ℕ) → passesOf rest (streamsOf rest) rule i ≡ passesOf s (streamsOf s) rule i
@@ -131,5 +131,5 @@ module _ (s t : List ℕ) {node other : NodeValues} (e : verdictOf s ≡ accepte
   notes-same-equation i = ap decoded (notes-same-record i)
 
   pub notes-same-kind : (i : ℕ) → kindAt s i ≡ kindAt t i
-  unfolding kindAt
+  unfolding kindAmong
   notes-same-kind i = ap (λ (r : Record). kindOf (r .kind)) (notes-same-record i)

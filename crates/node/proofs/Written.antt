@@ -1,36 +1,30 @@
 -- A written node file has the trailer and the records that were written and no note; it is accepted where its records keep the rules.
 -- Assumes nothing.
 use mathlib.Core.Path.{_≡_, refl, sym, _∙_, ap, ap₂, fun-ext}
-use mathlib.Core.Bool.{Bool, true, false, false≢true, cond}
+use mathlib.Core.Bool.{Bool, true, false, cond, _&&_}
 use mathlib.Core.List.{List, [], _∷_, _++_, foldr}
 use Prim.Native.Nat.{ℕ, zero, suc, _+_, _-_, _*_, _<_, _≤_, _^_, suc-le-suc}
 use native.Mathlib.Nat.{le-of-suc-le-suc, not-suc-le-zero}
 use native.Mathlib.Omega.{arith}
-use borrow.Author.Tests.{le-leb, leb-true, lt-ltb, ltb-true, ltb-false, eq-eqb}
-use lib.Dec.{leb, ltb, eqb}
-use lib.IntN.{ℤ, pos, negsuc, negℤ}
+use borrow.Author.Tests.{le-leb, lt-ltb, ltb-true, ltb-false, eq-eqb}
+use lib.Dec.{ltb}
+use lib.IntN.{ℤ, pos, negsuc, natAbs}
 use lib.ListN.{length, getD, List·getD-eq-default}
-use lib.Signed.{mag, _≤ℤ_}
-use Rattle.integers.proofs.Order.{leZ-true}
+use lib.Signed.{mag}
 use Rattle.answers.specs.Answer.{Answer, accepted, refused, NodeValues}
 use Rattle.fields.proofs.Written.{u16-back, u32-back, i32-back}
 use Rattle.node.specs.declared.layout.Trailer.{Trailer}
 use Rattle.node.specs.declared.layout.Record.{Record}
-use Rattle.node.specs.declared.table.Limit.{Limit}
-use Rattle.node.specs.declared.table.Limit.the-variants.{Zero, Value, Factor}
-use Rattle.node.specs.declared.equation.Kind.{Kind}
-use Rattle.node.specs.declared.equation.Kind.the-variants.{Bool as BoolKind, Int as IntKind}
 use Rattle.node.specs.Equations.{kindOf}
-use Rattle.node.specs.Reads.{InRange}
-use Rattle.node.specs.Layout.{trailerAt, trailerOf, recordAt, streamsOf, sizeOf, recordsOf, emptyRecord, recordOf, typeOf}
+use Rattle.node.specs.Layout.{trailerAt, trailerOf, recordAt, streamsOf, sizeOf, recordsOf, emptyRecord, recordAmong, recordOf, typeOf}
 use Rattle.node.specs.Note.{noteOf, noteLength}
 use Rattle.node.specs.Outcome.{NodeRules}
-use Rattle.node.specs.Rules.{constantLimit, lengthOk, fixedOk, countsOk, distanceOk, shapeOk, operandsOk, typesOk, propertyOk}
+use Rattle.node.specs.Rules.{lengthOk, fixedOk, countsOk, distanceOk, shapeOk, operandsOk, typesOk, propertyOk}
 use Rattle.node.specs.Table.{rowOf}
 use Rattle.node.specs.Verdict.{verdictOf}
 use Rattle.node.specs.Written.{recordBytes, trailerBytes, trailerFor, nodeFile, recordIn, NodeRecords}
+use Rattle.node.proofs.Encoding.{shape, limited}
 use Rattle.node.proofs.Outcomes.{accepted-values, keeps-accepted}
-use Rattle.node.proofs.Encoding.{shape}
 use Rattle.node.proofs.WithoutNote.{trailer-on, record-on}
 
 trailer-back : (t : Trailer) → trailerAt (trailerBytes t) 0 ≡ t
@@ -107,27 +101,21 @@ module _ (records : List Record) (property : ℕ) where
   module _ (fit : KsFit records) where
     -- record i is the one that was written, the empty one past the last
     pub written-record : (i : ℕ) → recordOf file i ≡ recordIn records i
-    unfolding recordOf nodeFile
-    written-record i = rw written-records (go (ltb i (length records)) refl)
+    unfolding recordAmong nodeFile
+    written-record i =
+        let n = length records in
+        rw (written-records, le-leb (sizeOf n) (length file) (omega (arith, written-length))) (go (ltb i n) refl)
       where
-        go : (b : Bool) → ltb i (length records) ≡ b → cond b (recordAt file (length file - sizeOf (length records) + 16 * i)) emptyRecord ≡ recordIn records i
+        go : (b : Bool) → ltb i (length records) ≡ b → cond (b && true) (recordAt file (length file - sizeOf (length records) + 16 * i)) emptyRecord ≡ recordIn records i
         go true e =
             ap (recordAt file) (omega (arith, written-length))
             ∙ among-records records (trailerBytes (trailerFor (length records) property)) fit i (ltb-true i (length records) e)
         go false e = sym (List·getD-eq-default records emptyRecord (ltb-false i (length records) e))
 
--- K against its rule is within 32 bits
-in-fits : (low k high : ℤ) → mag low < 2 ^ 31 → mag high < 2 ^ 31 → (low ≤ℤ k) × (k ≤ℤ high) → mag k < 2 ^ 31
-in-fits low (pos n) (pos h) l m e = omega (arith, leb-true n h (leZ-true (pos n) (pos h) .1 (e .1)))
-in-fits low (pos n) (negsuc h) l m e = absurd (false≢true (leZ-true (pos n) (negsuc h) .1 (e .1)))
-in-fits (pos b) (negsuc n) high l m e = absurd (false≢true (leZ-true (pos b) (negsuc n) .1 (e .0)))
-in-fits (negsuc b) (negsuc n) high l m e = omega (arith, leb-true n b (leZ-true (negsuc b) (negsuc n) .1 (e .0)))
-
-constant-fits : (limit : Limit) (kind : Kind) (k : ℤ) → InRange limit kind k → mag k < 2 ^ 31
-constant-fits Zero kind k = in-fits (pos 0) k (pos 0) (omega arith) (omega arith)
-constant-fits Value BoolKind k = in-fits (pos 0) k (pos 1) (omega arith) (omega arith)
-constant-fits Value IntKind k = in-fits (negℤ constantLimit) k constantLimit (omega arith) (omega arith)
-constant-fits Factor kind k = in-fits (negℤ constantLimit) k constantLimit (omega arith) (omega arith)
+-- K within its limit is one that 32 signed bits hold
+limited-fits : (k : ℤ) → natAbs k ≤ 1000000000 → mag k < 2 ^ 31
+limited-fits (pos n) l = omega arith
+limited-fits (negsuc n) l = omega arith
 
 module _ (records : List Record) (property : ℕ) (keep : NodeRecords records property) where
   abbrev written : List ℕ
@@ -136,7 +124,7 @@ module _ (records : List Record) (property : ℕ) (keep : NodeRecords records pr
   record-is : (i : ℕ) → recordOf written i ≡ recordIn records i
   record-is =
       written-record records property
-      (λ i l. let r = recordIn records i in constant-fits (rowOf (r .op) .k) (kindOf (r .kind)) (r .k) (shape r (keep .shapes i l) .constant))
+      (λ i l. let r = recordIn records i in limited-fits (r .k) (limited (rowOf (r .op) .k) (kindOf (r .kind)) (r .k) (shape r (keep .shapes i l) .constant)))
 
   streams-is : streamsOf written ≡ length records
   streams-is = written-streams records property

@@ -10,7 +10,7 @@ use Rattle.node.specs.declared.equation.Kind.{Kind}
 use Rattle.node.specs.declared.equation.Kind.the-variants.{Bool as BoolKind, Int as IntKind}
 use Rattle.node.specs.declared.equation.Equation.{Equation}
 use Rattle.node.specs.declared.equation.Equation.the-variants.{Input, Constant, Not, And, Or, Same, Sum, Difference, Multiple, AtMost, Equal, If, Arrow, FollowedBy}
-use Rattle.node.specs.Layout.{recordOf, typeOf, recordAmong, typeAmong}
+use Rattle.node.specs.Layout.{recordsOf, recordAmong, typeAmong}
 
 -- "type byte (0 bool, 1 int)"
 abbrev pub kindOf : ℕ → Kind
@@ -19,10 +19,6 @@ kindOf byte = cond (eqb byte 0) BoolKind IntKind
 abbrev pub byteOf : Kind → ℕ
 byteOf BoolKind = 0
 byteOf IntKind = 1
-
--- the type of stream i
-unfoldable pub kindAt : List ℕ → ℕ → Kind
-kindAt s i = kindOf (typeOf s i)
 
 -- operators 0 to 13, each with its own operands
 abbrev pub equations : Record → List Equation
@@ -77,13 +73,16 @@ encoded kind e =
 abbrev pub constantOf : Equation → ℤ
 constantOf e = fieldsOf e .k
 
--- the equation of stream i
-abbrev pub equationAt : List ℕ → ℕ → Equation
-equationAt s i = decoded (recordOf s i)
-
 -- type and equation of stream i of n
 unfoldable pub kindAmong : List ℕ → (n i : ℕ) → Kind
 kindAmong s n i = kindOf (typeAmong s n i)
 
 abbrev pub equationAmong : List ℕ → (n i : ℕ) → Equation
 equationAmong s n i = decoded (recordAmong s n i)
+
+-- of stream i
+abbrev pub kindAt : List ℕ → ℕ → Kind
+kindAt s i = kindAmong s (recordsOf s) i
+
+abbrev pub equationAt : List ℕ → ℕ → Equation
+equationAt s i = equationAmong s (recordsOf s) i

@@ -1,25 +1,23 @@
 -- The inputs of a node: "one signed 64-bit number an input, in record order".
 use Prim.Native.Nat.{ℕ, zero, suc, _^_}
 use mathlib.Core.List.{List}
-use mathlib.Core.Bool.{Bool, not, cond, _&&_}
+use mathlib.Core.Bool.{Bool, cond, _&&_}
 use lib.Dec.{eqb, ltb}
-use Rattle.answers.specs.declared.Found.{Found}
-use Rattle.answers.specs.Checks.{lowest}
 use Rattle.node.specs.declared.equation.Equation.{Equation}
-use Rattle.node.specs.Equations.{fieldsOf, equationAt, equationAmong}
+use Rattle.node.specs.Equations.{fieldsOf, equationAmong}
 use Rattle.node.specs.Layout.{recordsOf}
 
 -- an equation is an input: its operator is 0
 abbrev pub isInputEquation : Equation → Bool
 isInputEquation e = eqb (fieldsOf e .op) 0
 
--- record i is an input
-abbrev pub isInput : List ℕ → ℕ → Bool
-isInput s i = isInputEquation (equationAt s i)
-
 -- record i of n is an input
 abbrev pub isInputAmong : List ℕ → (n i : ℕ) → Bool
 isInputAmong s n i = isInputEquation (equationAmong s n i)
+
+-- record i is an input
+abbrev pub isInput : List ℕ → ℕ → Bool
+isInput s i = isInputAmong s (recordsOf s) i
 
 -- how many of the first i records are inputs
 abbrev pub withRecord : List ℕ → (i inputs : ℕ) → ℕ
@@ -36,10 +34,3 @@ withRecordAmong s n i inputs = cond (isInputAmong s n i && ltb inputs (2 ^ 63)) 
 -- how many inputs there are
 abbrev pub inputCount : List ℕ → ℕ
 inputCount s = inputsBelow s (recordsOf s)
-
--- the record that is the input number j, counted from 0: an input that j inputs stand below
-unfoldable pub isInputNumber : List ℕ → (j i : ℕ) → Bool
-isInputNumber s j i = isInput s i && eqb (inputsBelow s i) j
-
-abbrev pub inputRecord : List ℕ → (j : ℕ) → Found
-inputRecord s j = lowest (λ i. not (isInputNumber s j i)) (recordsOf s)

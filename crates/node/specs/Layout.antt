@@ -56,27 +56,21 @@ sizeOf n = 16 + 16 * n
 unfoldable pub recordsOf : List ℕ → ℕ
 recordsOf s = cond (leb 16 (length s) && leb (sizeOf (streamsOf s)) (length s)) (streamsOf s) 0
 
--- where record 0 stands
-abbrev pub startOf : List ℕ → ℕ
-startOf s = length s - sizeOf (recordsOf s)
-
 -- what stands for a record that the file does not have; the paper leaves it free
 abbrev pub emptyRecord : Record
 emptyRecord = record { op = 0; kind = 0; a = 0; b = 0; c = 0; k = pos 0; rest = 0 }
 
--- "Record i defines stream i"
-unfoldable pub recordOf : List ℕ → ℕ → Record
-recordOf s i = cond (ltb i (recordsOf s)) (recordAt s (startOf s + 16 * i)) emptyRecord
-
--- the type byte of record i
-abbrev pub typeOf : List ℕ → ℕ → ℕ
-typeOf s i = recordOf s i .kind
-
--- record i of n that stand before the trailer, where they fit the file. Of n = `recordsOf s` it is `recordOf s i`
--- (proofs/Records.antt).
+-- record i of n that stand before the trailer, where they fit the file
 unfoldable pub recordAmong : List ℕ → (n i : ℕ) → Record
 recordAmong s n i = cond (ltb i n && leb (sizeOf n) (length s)) (recordAt s (length s - sizeOf n + 16 * i)) emptyRecord
 
--- the type byte of record i of n
+-- its type byte
 abbrev pub typeAmong : List ℕ → (n i : ℕ) → ℕ
 typeAmong s n i = recordAmong s n i .kind
+
+-- "Record i defines stream i": of as many as the file has
+abbrev pub recordOf : List ℕ → ℕ → Record
+recordOf s i = recordAmong s (recordsOf s) i
+
+abbrev pub typeOf : List ℕ → ℕ → ℕ
+typeOf s i = typeAmong s (recordsOf s) i

@@ -1,10 +1,9 @@
 // The decoded record: its type, and its equation with stream numbers and constant.
 use crate::layout::Record;
 use crate::layout::record_among;
-use crate::layout::records_of;
 use crate::layout::type_among;
 ghost use mathlib.Core.Path.{_≡_};
-ghost use Rattle.node.specs.Equations.{kindAt, decoded, equationAt, kindAmong, equationAmong};
+ghost use Rattle.node.specs.Equations.{decoded, kindAmong, equationAmong};
 
 // The type of a stream.
 pub enum Kind {
@@ -84,18 +83,4 @@ pub fn kind_among(file: &[u8], n: usize, i: usize) -> Kind
     } else {
         Kind::Int
     }
-}
-
-// The equation of stream i.
-pub fn equation_of(file: &[u8], i: usize) -> Equation
-    ensures { λ r. ⌜ r ≡ equationAt (now (file .entry)) i ⌝ }
-{
-    equation_among(file, records_of(file), i)
-}
-
-// The type of stream i.
-pub fn kind_of(file: &[u8], i: usize) -> Kind
-    ensures { λ r. ⌜ r ≡ kindAt (now (file .entry)) i ⌝ }
-{
-    kind_among(file, records_of(file), i)
 }

@@ -2,9 +2,8 @@
 use crate::equation::Equation;
 use crate::equation::equation_among;
 use crate::layout::records_of;
-use answers::Found;
 ghost use mathlib.Core.Path.{_≡_};
-ghost use Rattle.node.specs.Inputs.{isInput, isInputAmong, withRecordAmong, inputCount, inputRecord};
+ghost use Rattle.node.specs.Inputs.{isInputAmong, withRecordAmong, inputCount};
 
 // Record i of n is an input.
 pub fn is_input_among(file: &[u8], n: usize, i: usize) -> bool
@@ -14,13 +13,6 @@ pub fn is_input_among(file: &[u8], n: usize, i: usize) -> bool
         Equation::Input => true,
         _ => false,
     }
-}
-
-// Record i is an input.
-pub fn is_input(file: &[u8], i: usize) -> bool
-    ensures { λ r. ⌜ r ≡ isInput (now (file .entry)) i ⌝ }
-{
-    is_input_among(file, records_of(file), i)
 }
 
 // The inputs counted so far, with record i of n. A count that no node reaches stays, so that none overflows.
@@ -46,21 +38,4 @@ pub fn input_count(file: &[u8]) -> usize
         i += 1;
     }
     inputs
-}
-
-// Which record is the input number j, counted from 0.
-pub fn input_record(file: &[u8], j: usize) -> Found
-    ensures { λ r. ⌜ r ≡ inputRecord (now (file .entry)) j ⌝ }
-{
-    let n = records_of(file);
-    let mut inputs = 0;
-    let mut i = 0;
-    while i < n {
-        if is_input_among(file, n, i) & (inputs == j) {
-            return Found::At(i);
-        }
-        inputs = with_record(file, n, i, inputs);
-        i += 1;
-    }
-    Found::Nothing
 }

@@ -9,7 +9,7 @@ use Rattle.answers.specs.Answer.{accepted, NodeValues}
 use Rattle.node.specs.declared.equation.Kind.{Kind}
 use Rattle.node.specs.declared.equation.Equation.{Equation}
 use Rattle.node.specs.declared.layout.Record.{Record}
-use Rattle.node.specs.Equations.{kindOf, kindAt, decoded, equationAt}
+use Rattle.node.specs.Equations.{kindOf, kindAmong, kindAt, decoded, equationAt}
 use Rattle.node.specs.Inputs.{isInputEquation, isInput, inputsBelow, inputCount}
 use Rattle.node.specs.Layout.{streamsOf, propertyOf, recordsOf}
 use Rattle.node.specs.Note.{withoutNote}
@@ -44,7 +44,7 @@ module _ (file : List ℕ) {node : NodeValues} (e : verdictOf file ≡ accepted 
   is-input-same i = ap (λ (r : Record). isInputEquation (decoded r)) (without-note-record file e i)
 
   kinds-same : kindAt rest ≡ kindAt file
-  unfolding kindAt
+  unfolding kindAmong
   kinds-same = fun-ext (λ i. ap (λ (r : Record). kindOf (r .kind)) (without-note-record file e i))
 
   equations-same : equationAt rest ≡ equationAt file
