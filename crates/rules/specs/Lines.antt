@@ -131,7 +131,7 @@ unless ok number rest = cond ok rest number
 abbrev pub ofKind : (kind its : ℕ) → (ok : Bool) → Bool
 ofKind kind its ok = not (eqb kind its) || ok
 
--- "17, 18, 19, 20: kind 1, 2, 3, 4 not as above": the number of the rule that a line of a kind breaks, 0 where it breaks none
+-- 17, 18, 19, 20: "kind 1, 2, 3, 4 not as above", as the number of the rule that a line of a kind breaks, 0 where it breaks none
 unfoldable pub kindFault : (kind : ℕ) → (equation property join arithmetic : Bool) → ℕ
 kindFault kind equation property join arithmetic =
     unless (ofKind kind 1 equation) 17

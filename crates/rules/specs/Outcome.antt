@@ -1,5 +1,5 @@
 -- The rules of a certificate one by one: what an accepted one keeps, and what a refusal says. Both are proved of every answer
--- (proofs/Outcomes.antt): "the published rules, and only they". The theorem does not look into the verdict.
+-- (proofs/Outcomes.antt), so that all published rules hold and no other. The theorem does not look into the verdict.
 use Prim.Native.Nat.{ℕ, _<_}
 use mathlib.Core.Path.{_≡_}
 use mathlib.Core.List.{List}
