@@ -6,6 +6,7 @@ use mathlib.Core.Bool.{Bool, true, false, and-false}
 use Prim.Native.Nat.{ℕ, zero, suc, _+_, _<_}
 use native.Mathlib.Nat.{not-suc-le-zero, eq-or-lt-of-le, le-of-suc-le-suc}
 use native.Mathlib.Numerals.{add-one}
+use native.Mathlib.Omega.{arith}
 use Rattle.answers.specs.Checks.{every}
 use Rattle.answers.proofs.Tests.{both-true}
 
@@ -32,3 +33,8 @@ module _ (ok : ℕ → Bool) where
   every-all (suc n) e k l =
       let both = both-true (every ok n) (ok n) e in
       ⊎-elim (λ (p : k ≡ n). rw p (both .1)) (λ (m : k < n). every-all n (both .0) k m) (eq-or-lt-of-le (le-of-suc-le-suc l))
+
+  pub every-of : (n : ℕ) → ((k : ℕ) → k < n → ok k ≡ true) → every ok n ≡ true
+  unfolding every
+  every-of zero h = refl
+  every-of (suc n) h = rw (every-of n (λ k l. h k (omega arith)), h n (omega arith))

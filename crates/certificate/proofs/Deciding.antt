@@ -10,7 +10,7 @@ use lib.IntN.{ℤ, pos, negℤ}
 use lib.ListN.{replicate}
 use lib.Signed.{leZ}
 use Rattle.answers.specs.Checks.{every}
-use Rattle.answers.proofs.Every.{every-all}
+use Rattle.answers.proofs.Every.{every-all, every-of}
 use Rattle.constraints.specs.Layout.{Constraint, Line, lineHeadAt, literalAt}
 use Rattle.literals.specs.Literals.{atomOf, isConstraint}
 use Rattle.rules.specs.Limited.{Named}
@@ -19,7 +19,7 @@ use Rattle.rules.proofs.Contradiction.{accepted}
 use Rattle.certificate.specs.Sums.{addForm, sumsOf, sumsAfter, termsZero}
 use Rattle.certificate.specs.Checkable.{Usable, Checkable}
 use Rattle.certificate.proofs.Adding.{on, sums-are, length-sums}
-use Rattle.certificate.proofs.Named.{every-of, zeros-are, named-suffice}
+use Rattle.certificate.proofs.Named.{zeros-are, named-suffice}
 
 module _ (constraints : ℕ → Constraint) (line : Line) (n : ℕ) (e : n ≡ line .head .count) where
   abbrev ok : ℕ → Bool

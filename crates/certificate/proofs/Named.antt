@@ -10,7 +10,7 @@ use borrow.Author.Tests.{ne-eqb}
 use lib.IntN.{ℤ, pos}
 use lib.ListN.{length, getD, replicate}
 use Rattle.answers.specs.Checks.{every}
-use Rattle.answers.proofs.Every.{every-all}
+use Rattle.answers.proofs.Every.{every-all, every-of}
 use Rattle.constraints.specs.Layout.{Constraint, Line}
 use Rattle.constraints.specs.Linear.{Form, variable, coefficient, scaled, written, sameZ}
 use Rattle.rules.specs.Arithmetic.{sumOf}
@@ -29,12 +29,6 @@ unfolding written
 unnamed-terms z c zero x h rest = refl
 unnamed-terms z c (suc n) x h rest =
     rw (ne-eqb (named c n) x (h n (le-refl (suc n)))) (unnamed-terms z c n x (λ j l. h j (omega arith)) rest)
-
--- a test that holds of each of the first n
-pub every-of : (ok : ℕ → Bool) (n : ℕ) → ((k : ℕ) → k < n → ok k ≡ true) → every ok n ≡ true
-unfolding every
-every-of ok zero h = refl
-every-of ok (suc n) h = rw (every-of ok n (λ k l. h k (omega arith)), h n (le-refl (suc n)))
 
 -- a list of n numbers that are all 0
 pub zeros-are : (n : ℕ) (l : List ℤ) → length l ≡ n → ((x : ℕ) → x < n → getD l x (pos 0) ≡ pos 0) → l ≡ replicate n (pos 0)

@@ -7,13 +7,13 @@ use native.Mathlib.Omega.{arith}
 use borrow.Author.Tests.{ltb-true, ltb-false, lt-ltb, le-ltb, le-leb, lt-leb}
 use lib.Dec.{leb, ltb}
 use Rattle.answers.specs.Checks.{every}
-use Rattle.answers.proofs.Every.{every-all}
+use Rattle.answers.proofs.Every.{every-all, every-of}
 use Rattle.answers.proofs.Tests.{both-true}
 use Rattle.constraints.specs.declared.layout.LineHead.{LineHead}
 use Rattle.constraints.specs.Layout.{Line}
 use Rattle.constraints.specs.Rules.{Sorts}
 use Rattle.rules.specs.Lines.{slotOk, numbersOk, shapeOk}
-use Rattle.certificate.proofs.Named.{every-of, same-test}
+use Rattle.certificate.proofs.Named.{same-test}
 use Rattle.certificate.specs.Slots.{listedOk, unusedOk}
 
 module _ (sorts : Sorts) (k m kind count : ℕ) (literal multiplier : ℕ → ℕ) where

@@ -3,17 +3,10 @@ use crate::layout::trailer_of;
 use constraints::counts_ok;
 use constraints::distance_ok;
 use constraints::fixed_ok;
+use node::length_ok;
 ghost use mathlib.Core.Path.{_≡_};
 ghost use lib.ListN.{take};
-ghost use Rattle.node.specs.Rules.{lengthOk};
 ghost use Rattle.rules.specs.Note.{fileOk, noteLength};
-
-// Rule 11.
-pub fn length_ok(size: usize) -> bool
-    ensures { λ r. ⌜ r ≡ lengthOk size ⌝ }
-{
-    (16 <= size) & (size <= 65535)
-}
 
 // Rules 11 to 14.
 fn file_ok(cert: &[u8]) -> bool

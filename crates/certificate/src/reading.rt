@@ -1,7 +1,6 @@
 // The verdict on a node file and a certificate: all rules in the paper's order, the first failure given.
 use crate::checker::lines_verdict;
 use crate::constraint_rules::first_bad;
-use crate::file_note::length_ok;
 use crate::layout::trailer_of;
 use crate::lines::start_of;
 use crate::refusals;
@@ -14,6 +13,7 @@ use constraints::Trailer;
 use constraints::counts_ok;
 use constraints::distance_ok;
 use constraints::fixed_ok;
+use node::length_ok;
 ghost use Prim.Native.Nat.{ℕ};
 ghost use mathlib.Core.Path.{_≡_};
 ghost use Rattle.answers.specs.Answer.{certificateAnswer};

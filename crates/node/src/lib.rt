@@ -20,3 +20,4 @@ pub use inputs::input_count;
 pub use inputs::is_input_among;
 pub use inputs::with_record;
 pub use reading::verdict;
+pub use rules::length_ok;

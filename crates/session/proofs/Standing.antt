@@ -11,6 +11,7 @@ use borrow.Author.Tests.{le-leb}
 use lib.IntN.{ℤ}
 use lib.ListN.{length}
 use Rattle.answers.specs.Answer.{accepted, NodeValues}
+use Rattle.answers.proofs.Every.{every-of}
 use Rattle.answers.specs.Checks.{every}
 use Rattle.node.specs.Equations.{kindAt}
 use Rattle.node.specs.Layout.{streamsOf}
@@ -48,11 +49,6 @@ pub record Standing (file : List ℕ) (done : List Answered) (s : Session) : Typ
       → SamePast (nodeOf file) (unstarted s) (valuesIn (s .last)) (before v (length done))
   pub fits : unstarted s ≡ false → (i : ℕ) → i < streamsOf file → Fits (kindAt file i) (valuesIn (s .last) i)
   pub shows : Shows file done
-
-every-of : (ok : ℕ → Bool) (n : ℕ) → ((k : ℕ) → k < n → ok k ≡ true) → every ok n ≡ true
-unfolding every
-every-of ok zero h = refl
-every-of ok (suc n) h = rw (every-of ok n (λ k l. h k (omega arith)), h n (lt-suc-self n))
 
 module _ (file : List ℕ) {node : NodeValues} (e : verdictOf file ≡ accepted node) (done : List Answered) (s : Session) (stands : Standing file done s) where
   wf : WellFormedNode (nodeOf file)
