@@ -14,7 +14,7 @@ use lib.ListN.{length, getD, set, replicate, length-set, length-replicate, getD-
 use lib.Seq.{getD-set-same, getD-set-other}
 use Rattle.integers.proofs.Ring.{+ℤ-idl, +ℤ-idr, +ℤ-comm, +ℤ-assoc, *ℤ-assoc, *ℤ-idr, *ℤ-negℤ}
 use Rattle.integers.proofs.Abs.{abs-*ℤ, abs-negℤ, bound-add, bound-sub}
-use Rattle.constraints.specs.Layout.{Constraint, Line}
+use Rattle.constraints.specs.Layout.{Constraint, Line, usedIn}
 use Rattle.constraints.specs.Linear.{Monomial, Form, Bounded, variable, coefficient, scaled, negated, written, boundedOf}
 use Rattle.literals.specs.Literals.{atomOf, isNegated, constraintNumber}
 use Rattle.rules.specs.Arithmetic.{sumOf}
@@ -150,13 +150,13 @@ module _ (constraints : ℕ → Constraint) (line : Line) where
   factor j = factorOf (line .literal j) (line .multiplier j)
 
   -- one literal more
-  pub form-more : (j : ℕ) → sumOf constraints line (suc j) .form ≡ scaled (factor j) (written (on j) (on j .head .count)) ++ sumOf constraints line j .form
+  pub form-more : (j : ℕ) → sumOf constraints line (suc j) .form ≡ scaled (factor j) (written (on j) (usedIn (on j))) ++ sumOf constraints line j .form
   unfolding sumOf factorOf
   form-more j =
       ap (λ (f : Form). f ++ sumOf constraints line j .form)
       (form-by-sign (boundedOf (on j)) (line .multiplier j) (isNegated (line .literal j)))
 
-  pub sums-more : (j : ℕ) → sumsOf constraints line (j + 1) ≡ addForm (sumsOf constraints line j) (scaled (factor j) (written (on j) (on j .head .count)))
+  pub sums-more : (j : ℕ) → sumsOf constraints line (j + 1) ≡ addForm (sumsOf constraints line j) (scaled (factor j) (written (on j) (usedIn (on j))))
   sums-more j = rw (add-one, form-more j) (addForm-append (replicate 576 (pos 0)) _ _)
 
   pub bound-suc : (j : ℕ)

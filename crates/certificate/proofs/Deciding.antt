@@ -11,7 +11,7 @@ use lib.ListN.{replicate}
 use lib.Signed.{leZ}
 use Rattle.answers.specs.Checks.{every}
 use Rattle.answers.proofs.Every.{every-all, every-of}
-use Rattle.constraints.specs.Layout.{Constraint, Line, lineHeadAt, literalAt}
+use Rattle.constraints.specs.Layout.{Constraint, Line, usedIn, listedIn, lineHeadAt, literalAt}
 use Rattle.literals.specs.Literals.{atomOf, isConstraint}
 use Rattle.rules.specs.Limited.{Named}
 use Rattle.rules.specs.Arithmetic.{sumOf, arithmeticOk}
@@ -21,7 +21,7 @@ use Rattle.certificate.specs.Checkable.{Usable, Checkable}
 use Rattle.certificate.proofs.Adding.{on, sums-are, length-sums}
 use Rattle.certificate.proofs.Named.{zeros-are, named-suffice}
 
-module _ (constraints : ℕ → Constraint) (line : Line) (n : ℕ) (e : n ≡ line .head .count) where
+module _ (constraints : ℕ → Constraint) (line : Line) (n : ℕ) (e : n ≡ listedIn line) where
   abbrev ok : ℕ → Bool
   ok j = isConstraint (atomOf (line .literal j))
 
@@ -38,7 +38,7 @@ module _ (constraints : ℕ → Constraint) (line : Line) (n : ℕ) (e : n ≡ l
 
   pub ends : 1 ≤ n → allOn ≡ true → (sums : List ℤ) (bound : ℤ)
       → sums ≡ sumsOf constraints line n → bound ≡ sumOf constraints line n .bound
-      → ((j : ℕ) → j < n → Named (on constraints line j) (on constraints line j .head .count))
+      → ((j : ℕ) → j < n → Named (on constraints line j) (usedIn (on constraints line j)))
       → (every (λ j. termsZero sums (on constraints line j)) n && leZ bound (negℤ (pos 1))) ≡ arithmeticOk constraints line
   unfolding arithmeticOk
   ends l f sums bound g h below =
@@ -50,12 +50,12 @@ module _ (constraints : ℕ → Constraint) (line : Line) (n : ℕ) (e : n ≡ l
   unfolding sumsAfter
   after-all f =
       ap (sumsOf constraints line) e
-      ∙ sym (ap (λ (b : Bool). cond b (sumsOf constraints line (line .head .count)) (replicate 576 (pos 0))) (subst (λ (m : ℕ). every ok m ≡ true) e f))
+      ∙ sym (ap (λ (b : Bool). cond b (sumsOf constraints line (listedIn line)) (replicate 576 (pos 0))) (subst (λ (m : ℕ). every ok m ≡ true) e f))
 
   pub after-other : allOn ≡ false → replicate 576 (pos 0) ≡ sumsAfter constraints line
   unfolding sumsAfter
   after-other f =
-      sym (ap (λ (b : Bool). cond b (sumsOf constraints line (line .head .count)) (replicate 576 (pos 0))) (subst (λ (m : ℕ). every ok m ≡ false) e f))
+      sym (ap (λ (b : Bool). cond b (sumsOf constraints line (listedIn line)) (replicate 576 (pos 0))) (subst (λ (m : ℕ). every ok m ≡ false) e f))
 
   pub after-none : n < 1 → replicate 576 (pos 0) ≡ sumsAfter constraints line
   unfolding sumOf addForm every
@@ -66,7 +66,7 @@ module _ (constraints : ℕ → Constraint) (line : Line) (n : ℕ) (e : n ≡ l
 -- a line that passes leaves the sums at zero
 pub passed-clear : (constraints : ℕ → Constraint) (line : Line) → arithmeticOk constraints line ≡ true → sumsAfter constraints line ≡ replicate 576 (pos 0)
 passed-clear constraints line e =
-    let n = line .head .count in
+    let n = listedIn line in
     let told = accepted constraints line e in
     sym (after-all constraints line n refl (every-of (λ j. isConstraint (atomOf (line .literal j))) n (told .on-constraints)))
     ∙ zeros-are 576 (sumsOf constraints line n) (length-sums constraints line n) λ x l. sums-are constraints line n x l ∙ told .zeros x l

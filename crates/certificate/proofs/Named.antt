@@ -11,7 +11,7 @@ use lib.IntN.{ℤ, pos}
 use lib.ListN.{length, getD, replicate}
 use Rattle.answers.specs.Checks.{every}
 use Rattle.answers.proofs.Every.{every-all, every-of}
-use Rattle.constraints.specs.Layout.{Constraint, Line}
+use Rattle.constraints.specs.Layout.{Constraint, Line, usedIn}
 use Rattle.constraints.specs.Linear.{Form, variable, coefficient, scaled, written, sameZ}
 use Rattle.rules.specs.Arithmetic.{sumOf}
 use Rattle.rules.specs.Limited.{Named}
@@ -46,14 +46,14 @@ same-test false false f g = refl
 
 module _ (constraints : ℕ → Constraint) (line : Line) where
   unnamed : (n x : ℕ)
-      → ((i : ℕ) → i < n → (j : ℕ) → j < on constraints line i .head .count → named (on constraints line i) j ≡ x → ⊥)
+      → ((i : ℕ) → i < n → (j : ℕ) → j < usedIn (on constraints line i) → named (on constraints line i) j ≡ x → ⊥)
       → coefficient (sumOf constraints line n .form) x ≡ pos 0
   unfolding sumOf
   unnamed zero x h = refl
   unnamed (suc n) x h =
       let c = on constraints line n in
       ap (λ (f : Form). coefficient f x) (form-more constraints line n)
-      ∙ unnamed-terms (factor constraints line n) c (c .head .count) x (h n (le-refl (suc n))) (sumOf constraints line n .form)
+      ∙ unnamed-terms (factor constraints line n) c (usedIn c) x (h n (le-refl (suc n))) (sumOf constraints line n .form)
       ∙ unnamed n x (λ i l. h i (omega arith))
 
   module _ (n : ℕ) where
@@ -76,11 +76,11 @@ module _ (constraints : ℕ → Constraint) (line : Line) where
         (unnamed n x λ i k j m p.
         let c = on constraints line i in
         let here : sameZ (getD sums (named c j) (pos 0)) (pos 0) ≡ true =
-        every-all (zeroAt sums c) (c .head .count) (every-all zeroOf n all i k) j m in
+        every-all (zeroAt sums c) (usedIn c) (every-all zeroOf n all i k) j m in
         false≢true (sym e ∙ sym (same-zero x l) ∙ subst (λ (y : ℕ). sameZ (getD sums y (pos 0)) (pos 0) ≡ true) p here))
 
     -- the test at the named variables is the test at all
-    pub named-suffice : ((i : ℕ) → i < n → Named (on constraints line i) (on constraints line i .head .count))
+    pub named-suffice : ((i : ℕ) → i < n → Named (on constraints line i) (usedIn (on constraints line i)))
         → every zeroOf n ≡ every zeroSum 576
     named-suffice below =
         same-test (every zeroOf n) (every zeroSum 576)
@@ -89,5 +89,5 @@ module _ (constraints : ℕ → Constraint) (line : Line) where
         every-of zeroOf n
         (λ i k.
         let c = on constraints line i in
-        every-of (zeroAt sums c) (c .head .count)
+        every-of (zeroAt sums c) (usedIn c)
         (λ j m. same-zero (named c j) (below i k j m) ∙ every-all zeroSum 576 all (named c j) (below i k j m))))

@@ -13,8 +13,10 @@ use mir.Facts.{toZ-ofZ}
 use Rattle.integers.proofs.Abs.{abs-fits, bound-add, bound-mul}
 use Rattle.integers.proofs.Reading.{rd}
 use Rattle.integers.proofs.Small.{small-sum-fits, small-sum}
-use Rattle.constraints.specs.Layout.{Constraint, Line, constraintAt, headAt, termAt, lineAt, literalAt, multiplierAt}
+use Rattle.constraints.specs.declared.layout.ConstraintHead.{ConstraintHead}
+use Rattle.constraints.specs.Layout.{Constraint, Line, usedIn, constraintAt, headAt, termAt, lineAt, literalAt, multiplierAt}
 use Rattle.constraints.specs.Linear.{variable, scaled, written}
+use Rattle.constraints.proofs.Blocks.{used-is, used-few}
 use Rattle.rules.specs.Arithmetic.{sumOf}
 use Rattle.certificate.specs.Sums.{addForm, sumsOf, constraintsFrom, placeOf, factorOf, oppositeBound}
 use Rattle.certificate.specs.Checkable.{Summable, Usable}
@@ -22,9 +24,14 @@ use Rattle.certificate.proofs.Adding.{entry-within, weight, weight-appe
 
 -- ---- one term of a constraint
 
+-- the count as it was read
+pub count-used : (s : List ℕ) (at : ℕ) → Summable s at → (h : ConstraintHead) → h ≡ headAt s at → h .count ≡ usedIn (constraintAt s at)
+count-used s at good h e =
+    ap (λ (h : ConstraintHead). h .count) e ∙ sym (used-is (constraintAt s at) (good .limited .few))
+
 module _ (s : List ℕ) (at : ℕ) (good : Summable s at) (z : ℤ) (small : natAbs z ≤ 1000000) (base : List ℤ)
     (sized : length base ≡ 576) (within : (x : ℕ) → x < 576 → natAbs (getD base x (pos 0)) ≤ 1000000000000000000)
-    (new : List ℤ) (j x : ℕ) (v : ℤ) (l : j < headAt s at .count)
+    (new : List ℤ) (j x : ℕ) (v : ℤ) (l : j < usedIn (constraintAt s at))
     (e : new ≡ addForm base (scaled z (written (constraintAt s at) j)))
     (f : x ≡ variable (termAt s at j .offset) (termAt s at j .stream))
     (g : v ≡ z *ℤ termAt s at j .coefficient) where
@@ -35,7 +42,7 @@ module _ (s : List ℕ) (at : ℕ) (good : Summable s at) (z : ℤ) (small : nat
   so-far =
       let terms = scaled z (written (constraintAt s at) j) in
       let light : weight terms ≤ 8000000000000000 =
-      weight-terms z (constraintAt s at) j small (omega (arith, good .limited .few)) (λ i k. good .limited .coefficients i (omega arith)) in
+      weight-terms z (constraintAt s at) j small (omega (arith, used-few (constraintAt s at))) (λ i k. good .limited .coefficients i (omega arith)) in
       let now : natAbs (getD (addForm base terms) x (pos 0)) ≤ weight terms + 1000000000000000000 =
       entry-within base terms x 1000000000000000000 (rw sized in-array) (within x in-array) in
       rw e (omega arith)
@@ -66,13 +73,13 @@ module _ (s : List ℕ) (start at : ℕ) where
   forms-within zero u = le-refl 0
   forms-within (suc n) u =
       let good = u n (le-refl (suc n)) in
-      let terms = scaled (factorOf (literalAt s at n) (multiplierAt s at n)) (written (constraintAt s (placeOf s start at n)) (headAt s (placeOf s start at n) .count)) in
+      let terms = scaled (factorOf (literalAt s at n) (multiplierAt s at n)) (written (constraintAt s (placeOf s start at n)) (usedIn (constraintAt s (placeOf s start at n)))) in
       let more : weight (sumOf constraints line (suc n) .form) ≡ weight terms + weight (sumOf constraints line n .form) =
       ap weight (form-more constraints line n) ∙ weight-append terms (sumOf constraints line n .form) in
       let light : weight terms ≤ 8000000000000000 =
       weight-terms (factorOf (literalAt s at n) (multiplierAt s at n)) (constraintAt s (placeOf s start at n)) _
       (rw (abs-factor (literalAt s at n) (multiplierAt s at n)) (good .multiplier))
-      (good .summable .limited .few) (good .summable .limited .coefficients) in
+      (used-few _) (good .summable .limited .coefficients) in
       omega (arith, more, forms-within n (λ j l. u j (omega arith)))
 
   -- the bound that literal j adds
@@ -131,7 +138,7 @@ module _ (s : List ℕ) (start at : ℕ) where
 
   -- a constraint's terms added to the sums so far
   pub literal-turn : (j : ℕ) (sums next : List ℤ) (place : ℕ) (factor : ℤ)
-      → next ≡ addForm sums (scaled factor (written (constraintAt s place) (headAt s place .count)))
+      → next ≡ addForm sums (scaled factor (written (constraintAt s place) (usedIn (constraintAt s place))))
       → place ≡ placeOf s start at j
       → factor ≡ factorOf (literalAt s at j) (multiplierAt s at j)
       → sums ≡ sumsOf constraints line j

@@ -5,7 +5,7 @@ use mathlib.Core.Bool.{Bool, cond}
 use lib.IntN.{ℤ, pos, negℤ, _+ℤ_, _-ℤ_}
 use lib.ListN.{getD, set, replicate}
 use Rattle.answers.specs.Checks.{every}
-use Rattle.constraints.specs.Layout.{Constraint, Line, constraintAt, literalAt}
+use Rattle.constraints.specs.Layout.{Constraint, Line, usedIn, listedIn, constraintAt, literalAt}
 use Rattle.constraints.specs.Linear.{Form, variable, sameZ}
 use Rattle.literals.specs.Literals.{atomOf, isNegated, isConstraint, constraintNumber}
 use Rattle.rules.specs.Arithmetic.{sumOf}
@@ -26,8 +26,8 @@ sumsOf constraints line n = addForm (replicate 576 (pos 0)) (sumOf constraints l
 -- what the sums hold after a line, lent at zero: its sum where each of its literals is on a constraint, else they stay at zero
 unfoldable pub sumsAfter : (ℕ → Constraint) → Line → List ℤ
 sumsAfter constraints line =
-    cond (every (λ j. isConstraint (atomOf (line .literal j))) (line .head .count))
-    (sumsOf constraints line (line .head .count))
+    cond (every (λ j. isConstraint (atomOf (line .literal j))) (listedIn line))
+    (sumsOf constraints line (listedIn line))
     (replicate 576 (pos 0))
 
 -- the constraints of a file whose first one stands at `start`
@@ -52,4 +52,4 @@ zeroAt sums c j = sameZ (getD sums (variable (c .term j .offset) (c .term j .str
 
 -- the sum at each variable of a constraint is 0
 abbrev pub termsZero : List ℤ → Constraint → Bool
-termsZero sums c = every (zeroAt sums c) (c .head .count)
+termsZero sums c = every (zeroAt sums c) (usedIn c)

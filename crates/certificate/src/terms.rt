@@ -9,7 +9,7 @@ ghost use Prim.Native.Nat.{ℕ, _+_, _<_, _≤_};
 ghost use mathlib.Core.Path.{_≡_};
 ghost use lib.IntN.{pos, natAbs, _*ℤ_};
 ghost use lib.ListN.{length, getD};
-ghost use Rattle.constraints.specs.Layout.{headAt, termAt, constraintAt, literalAt, multiplierAt};
+ghost use Rattle.constraints.specs.Layout.{headAt, termAt, constraintAt, usedIn, literalAt, multiplierAt};
 ghost use Rattle.constraints.specs.Linear.{variable, scaled, written};
 ghost use Rattle.certificate.specs.Sums.{addForm, placeOf, factorOf, oppositeBound, termsZero};
 ghost use Rattle.certificate.specs.Checkable.{Summable, Usable};
@@ -69,7 +69,7 @@ pub fn add_terms(sums: &mut [i64], file: &[u8], at: usize, factor: i64)
     requires { ⌜ Summable (now file) at ⌝ }
     requires { ⌜ natAbs factor ≤ 1000000 ⌝ }
     requires { ⌜ (length (now sums) ≡ 576) × ((x : ℕ) → x < 576 → natAbs (getD (now sums) x (pos 0)) ≤ 1000000000000000000) ⌝ }
-    ensures { λ r. ⌜ now (sums .exit) ≡ addForm (now (sums .entry)) (scaled factor (written (constraintAt (now (file .entry)) at) (headAt (now (file .entry)) at .count))) ⌝ }
+    ensures { λ r. ⌜ now (sums .exit) ≡ addForm (now (sums .entry)) (scaled factor (written (constraintAt (now (file .entry)) at) (usedIn (constraintAt (now (file .entry)) at)))) ⌝ }
 {
     let head = constraint_head(file, at);
     let count = head.count as usize;

@@ -1,2 +1,3 @@
+pub mod Blocks
 pub mod Negations
 pub mod Totals

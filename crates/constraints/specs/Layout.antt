@@ -1,6 +1,6 @@
 -- "Certificate file": note, constraints, base lines, step lines, trailer. The rules speak of the trailer, constraints and lines,
 -- and of no byte.
-use Prim.Native.Nat.{ℕ, _+_, _-_, _*_}
+use Prim.Native.Nat.{ℕ, _+_, _-_, _*_, min}
 use mathlib.Core.List.{List}
 use lib.ListN.{length}
 use Rattle.fields.specs.Fields.{byteAt, u16At, u32At, i32At, i64At, zerosAt}
@@ -59,6 +59,10 @@ pub record Constraint : Type 0 where
   pub head : ConstraintHead
   pub term : ℕ → Term
 
+-- "term count (0 to 8)": the used terms, none past the eighth whatever the count
+unfoldable pub usedIn : Constraint → ℕ
+usedIn c = min (c .head .count) 8
+
 abbrev pub constraintAt : List ℕ → ℕ → Constraint
 constraintAt s at = record { head = headAt s at; term = termAt s at }
 
@@ -82,6 +86,10 @@ pub record Line : Type 0 where
   pub head : LineHead
   pub literal : ℕ → ℕ
   pub multiplier : ℕ → ℕ
+
+-- "literal count byte (0 to 12)": the listed literals, none past the twelfth whatever the count
+unfoldable pub listedIn : Line → ℕ
+listedIn line = min (line .head .count) 12
 
 abbrev pub lineAt : List ℕ → ℕ → Line
 lineAt s at = record { head = lineHeadAt s at; literal = literalAt s at; multiplier = multiplierAt s at }

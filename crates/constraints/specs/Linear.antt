@@ -6,7 +6,7 @@ use lib.Dec.{eqb}
 use lib.IntN.{ℤ, pos, negℤ, _+ℤ_, _-ℤ_, _*ℤ_}
 use lib.Signed.{leZ}
 use Rattle.constraints.specs.declared.layout.Term.{Term}
-use Rattle.constraints.specs.Layout.{Constraint}
+use Rattle.constraints.specs.Layout.{Constraint, usedIn}
 
 -- a stream at an offset, as one number; the atom of a bool stream
 abbrev pub variable : (offset stream : ℕ) → ℕ
@@ -51,7 +51,7 @@ written c zero = []
 written c (suc j) = monomial (c .term j) ∷ written c j
 
 abbrev pub boundedOf : Constraint → Bounded
-boundedOf c = record { form = written c (c .head .count); bound = c .head .bound }
+boundedOf c = record { form = written c (usedIn c); bound = c .head .bound }
 
 -- the same whole number
 abbrev pub sameZ : ℤ → ℤ → Bool

@@ -9,6 +9,7 @@ use native.Mathlib.Omega.{arith}
 use Rattle.node.specs.Layout.{propertyOf}
 use Rattle.streams.specs.Nodes.{nodeOf}
 use Rattle.constraints.specs.Layout.{Line, trailerOf, constraintOf, lineOf}
+use Rattle.constraints.proofs.Blocks.{listed-within}
 use Rattle.literals.specs.Literals.{atomOf, constraintNumber}
 use Rattle.rules.specs.Joins.{joinOk}
 use Rattle.rules.specs.Lines.{Window, hasEmpty}
@@ -52,7 +53,7 @@ module _ (node cert : List ℕ) (rules : CertificateRules node cert) where
       (λ j m.
       let atom = atomOf (line .literal j) in
       let on = accepted (constraintOf cert) line passes .on-constraints j m in
-      let below = names-constraint (sortsOfNode node) (trailerOf cert .depth) (trailerOf cert .constraints) atom (shape i l .atoms j m) on in
+      let below = names-constraint (sortsOfNode node) (trailerOf cert .depth) (trailerOf cert .constraints) atom (shape i l .atoms j (omega (arith, listed-within line))) on in
       constraint-limited node cert rules (constraintNumber atom) below .variables)
 
   module _ (part : Window) (p : IsPart node cert part) (w : Valuation) where

@@ -8,7 +8,7 @@ use Prim.Native.Nat.{ℕ, _<_}
 use borrow.Author.Tests.{not-false}
 use lib.Signed.{_≤ℤ_}
 use Rattle.integers.proofs.Order.{leZ-true}
-use Rattle.constraints.specs.Layout.{Constraint, Line}
+use Rattle.constraints.specs.Layout.{Constraint, Line, usedIn, listedIn}
 use Rattle.constraints.specs.Linear.{Bounded, total, negated, boundedOf}
 use Rattle.constraints.proofs.Negations.{negation-opposite}
 use Rattle.literals.specs.Literals.{atomOf, isNegated, isConstraint, constraintNumber}
@@ -47,14 +47,14 @@ module _ (constraints : ℕ → Constraint) (w : Valuation) where
 
   pub arithmetic-satisfied :
       (line : Line) → arithmeticOk constraints line ≡ true
-      → ((j : ℕ) → j < line .head .count → Named (on (atomOf (line .literal j))) (on (atomOf (line .literal j)) .head .count))
+      → ((j : ℕ) → j < listedIn line → Named (on (atomOf (line .literal j))) (usedIn (on (atomOf (line .literal j)))))
       → Satisfies constraints w line
-  arithmetic-satisfied line e named = go (searched true-at (line .head .count))
+  arithmetic-satisfied line e named = go (searched true-at (listedIn line))
     where
       true-at : ℕ → Bool
       true-at j = literalTrue constraints w (line .literal j)
 
-      go : Passing true-at (line .head .count) ⊎ AllFail true-at (line .head .count) → Satisfies constraints w line
+      go : Passing true-at (listedIn line) ⊎ AllFail true-at (listedIn line) → Satisfies constraints w line
       go (inl p) = record { which = p .at; listed = p .below; holds = p .passes }
       go (inr fail) =
           absurd (contradiction constraints line e named w (λ j l. opposite-holds (line .literal j) (accepted constraints line e .on-constraints j l) (fail j l)))

@@ -4,13 +4,15 @@ use mathlib.Core.Path.{_≡_, sym}
 use mathlib.Core.Logic.{_⊎_, inl, inr}
 use mathlib.Core.List.{List, [], _∷_}
 use mathlib.Core.Bool.{Bool, true, false, not, _&&_, _||_, true≢false}
-use Prim.Native.Nat.{ℕ, zero, suc, _<_}
+use Prim.Native.Nat.{ℕ, zero, suc, _≤_, _<_}
+use native.Mathlib.Omega.{arith}
 use borrow.Author.Tests.{eqb-true, leb-false, not-true}
 use lib.Dec.{leb, eqb}
 use Rattle.answers.proofs.Tests.{both-true, either-true}
 use Rattle.node.specs.Reads.{All}
 use Rattle.constraints.specs.Layout.{Constraint, Line}
 use Rattle.constraints.specs.Linear.{boundedOf as ofConstraint}
+use Rattle.constraints.proofs.Blocks.{is-listed}
 use Rattle.constraints.proofs.Totals.{Below}
 use Rattle.rules.specs.declared.pattern.Clause.{Clause}
 use Rattle.rules.specs.declared.pattern.Pattern.{Pattern}
@@ -57,19 +59,19 @@ module _ (constraints : ℕ → Constraint) (m : ℕ) (line : Line) where
 module _ (constraints : ℕ → Constraint) (w : Valuation) (m : ℕ) (named : (i : ℕ) → i < m → Below 576 (ofConstraint (constraints i) .form)) (line : Line) where
   -- literal j of the line is true, where it matches a true one of the clause
   by-literal : (c : Clause) (j : ℕ) (p : Pattern)
-      → line .head .count ≡ c .count → j < c .count → LiteralBelow 576 p
+      → line .head .count ≡ c .count → j < c .count → j ≤ 2 → LiteralBelow 576 p
       → matchesOf constraints m p (line .literal j) ≡ true → patternTrue w p ≡ true → Satisfies constraints w line
-  by-literal c j p count l low e h =
-      record { which = j; listed = rw count l; holds = matched-true constraints w m named p (line .literal j) low e h }
+  by-literal c j p count l few low e h =
+      record { which = j; listed = is-listed line j (rw count l) (omega arith); holds = matched-true constraints w m named p (line .literal j) low e h }
 
   -- the same of the second and third, which a short clause lacks
   by-later : (c : Clause) (j : ℕ) (p : Pattern)
-      → line .head .count ≡ c .count → LiteralBelow 576 p
+      → line .head .count ≡ c .count → j ≤ 2 → LiteralBelow 576 p
       → (leb (c .count) j || matchesOf constraints m p (line .literal j)) ≡ true
       → (not (leb (c .count) j) && patternTrue w p) ≡ true → Satisfies constraints w line
-  by-later c j p count low e h =
+  by-later c j p count few low e h =
       let both = both-true (not (leb (c .count) j)) (patternTrue w p) h in
-      by-literal c j p count (past (c .count) j (both .0)) low
+      by-literal c j p count (past (c .count) j (both .0)) few low
       (past-match (c .count) j (matchesOf constraints m p (line .literal j)) (both .0) e) (both .1)
 
   pub clause-satisfied : (c : Clause) → ClauseBelow 576 c → clauseIs constraints m line c ≡ true → clauseTrue w c ≡ true → Satisfies constraints w line
@@ -80,12 +82,12 @@ module _ (constraints : ℕ → Constraint) (w : Valuation) (m : ℕ) (named : (
       told = listed constraints m line c e
 
       early : (patternTrue w (c .first) ≡ true) ⊎ ((not (leb (c .count) 1) && patternTrue w (c .second)) ≡ true) → Satisfies constraints w line
-      early (inl f) = by-literal c 0 (c .first) (told .count) (low .some) (low .first) (told .first) f
-      early (inr f) = by-later c 1 (c .second) (told .count) (low .second) (told .second) f
+      early (inl f) = by-literal c 0 (c .first) (told .count) (low .some) (omega arith) (low .first) (told .first) f
+      early (inr f) = by-later c 1 (c .second) (told .count) (omega arith) (low .second) (told .second) f
 
       go : ((patternTrue w (c .first) || not (leb (c .count) 1) && patternTrue w (c .second)) ≡ true) ⊎ ((not (leb (c .count) 2) && patternTrue w (c .third)) ≡ true) → Satisfies constraints w line
       go (inl f) = early (either-true _ _ f)
-      go (inr f) = by-later c 2 (c .third) (told .count) (low .third) (told .third) f
+      go (inr f) = by-later c 2 (c .third) (told .count) (omega arith) (low .third) (told .third) f
 
   -- "clause r, counted from 0": any clause of a list will do, if all are true
   pub numbered-satisfied : (cs : List Clause) (r : ℕ) → All (ClauseBelow 576) cs → AllTrue w cs → literalsAre constraints m line (numbered cs r) ≡ true → Satisfies constraints w line

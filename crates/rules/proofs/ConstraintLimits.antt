@@ -14,9 +14,10 @@ use Rattle.answers.specs.Checks.{every}
 use Rattle.answers.proofs.Every.{every-all}
 use Rattle.answers.proofs.Tests.{both-true}
 use Rattle.constraints.specs.declared.layout.Term.{Term}
-use Rattle.constraints.specs.Layout.{Constraint}
+use Rattle.constraints.specs.Layout.{Constraint, usedIn}
 use Rattle.constraints.specs.Linear.{variable}
 use Rattle.constraints.specs.Rules.{Sorts, between, boundLimit, coefficientLimit, usedOk, rises, termOk, constraintOk}
+use Rattle.constraints.proofs.Blocks.{used-is}
 use Rattle.literals.specs.Literals.{isConstraint, constraintNumber}
 use Rattle.rules.specs.Literals.{namesAtom}
 use Rattle.rules.specs.Limited.{Limited}
@@ -61,8 +62,8 @@ limited sorts few k deep c e =
     let all = both-true (leb count 8 && c .head .zeros && bound) (every (termOk sorts k count (c .term)) 8) e in
     let first = both-true (leb count 8 && c .head .zeros) bound (all .0) in
     let small : count ≤ 8 = leb-true count 8 (both-true (leb count 8) (c .head .zeros) (first .0) .0) in
-    let each : (j : ℕ) → j < count → usedOk sorts k (c .term j) ≡ true =
-    λ j l. is-used sorts k count (c .term) j l (every-all (termOk sorts k count (c .term)) 8 (all .1) j (omega arith)) in
+    let each : (j : ℕ) → j < usedIn c → usedOk sorts k (c .term j) ≡ true =
+    λ j l. is-used sorts k count (c .term) j (omega (arith, used-is c small)) (every-all (termOk sorts k count (c .term)) 8 (all .1) j (omega (arith, used-is c small))) in
     record {
       few = small;
       bound = between-abs 100000000000 (c .head .bound) (first .1);

@@ -13,7 +13,7 @@ use Rattle.integers.proofs.Order.{≤ℤ-trans, ≤ℤ-refl, +ℤ-mono, *ℤ-mo
 use Rattle.answers.specs.Checks.{every}
 use Rattle.answers.proofs.Every.{every-all}
 use Rattle.answers.proofs.Tests.{both-true}
-use Rattle.constraints.specs.Layout.{Constraint, Line}
+use Rattle.constraints.specs.Layout.{Constraint, Line, usedIn, listedIn}
 use Rattle.constraints.specs.Linear.{Bounded, coefficient, total, scaled, negated, written, boundedOf, sameZ}
 use Rattle.constraints.proofs.Totals.{total-append, total-scaled, Below, below-append, below-scaled, vanishes}
 use Rattle.literals.specs.Literals.{atomOf, isNegated, isConstraint, constraintNumber}
@@ -58,13 +58,13 @@ module _ (constraints : ℕ → Constraint) (line : Line) where
   abbrev on : ℕ → Constraint
   on j = constraints (constraintNumber (atomOf (line .literal j)))
 
-  pub sum-below : (n : ℕ) → ((j : ℕ) → j < n → Named (on j) (on j .head .count)) → Below 576 (sumOf constraints line n .form)
+  pub sum-below : (n : ℕ) → ((j : ℕ) → j < n → Named (on j) (usedIn (on j))) → Below 576 (sumOf constraints line n .form)
   unfolding sumOf
   sum-below zero h = tt
   sum-below (suc n) h =
       let c = boundedOf (on n) in
       let form = cond (isNegated (line .literal n)) c (negated c) .form in
-      let low = below-written (on n) (on n .head .count) (h n (le-refl (suc n))) in
+      let low = below-written (on n) (usedIn (on n)) (h n (le-refl (suc n))) in
       below-append 576 (scaled (pos (line .multiplier n)) form) (sumOf constraints line n .form)
       (below-scaled 576 (pos (line .multiplier n)) form (below-opposite c low (isNegated (line .literal n))))
       (sum-below n (λ j l. h j (omega arith)))
@@ -72,15 +72,15 @@ module _ (constraints : ℕ → Constraint) (line : Line) where
   -- ---- what an accepted line says
 
   pub record Accepted : Type 0 where
-    pub some : 1 ≤ line .head .count
-    pub on-constraints : (j : ℕ) → j < line .head .count → isConstraint (atomOf (line .literal j)) ≡ true
-    pub zeros : (x : ℕ) → x < 576 → coefficient (sumOf constraints line (line .head .count) .form) x ≡ pos 0
-    pub negative : sumOf constraints line (line .head .count) .bound ≤ℤ negℤ (pos 1)
+    pub some : 1 ≤ listedIn line
+    pub on-constraints : (j : ℕ) → j < listedIn line → isConstraint (atomOf (line .literal j)) ≡ true
+    pub zeros : (x : ℕ) → x < 576 → coefficient (sumOf constraints line (listedIn line) .form) x ≡ pos 0
+    pub negative : sumOf constraints line (listedIn line) .bound ≤ℤ negℤ (pos 1)
 
   pub accepted : arithmeticOk constraints line ≡ true → Accepted
   unfolding arithmeticOk
   accepted e =
-      let n = line .head .count in
+      let n = listedIn line in
       let sum = sumOf constraints line n in
       let on-test : ℕ → Bool = λ j. isConstraint (atomOf (line .literal j)) in
       let zero-test : ℕ → Bool = λ x. sameZ (coefficient (sum .form) x) (pos 0) in
@@ -97,12 +97,12 @@ module _ (constraints : ℕ → Constraint) (line : Line) where
   -- the opposites of an accepted line's literals do not all hold, whatever the values
   pub contradiction :
       arithmeticOk constraints line ≡ true
-      → ((j : ℕ) → j < line .head .count → Named (on j) (on j .head .count))
+      → ((j : ℕ) → j < listedIn line → Named (on j) (usedIn (on j)))
       → (w : ℕ → ℤ)
-      → ((j : ℕ) → j < line .head .count → total (oppositeSays constraints (line .literal j) .form) w ≤ℤ oppositeSays constraints (line .literal j) .bound)
+      → ((j : ℕ) → j < listedIn line → total (oppositeSays constraints (line .literal j) .form) w ≤ℤ oppositeSays constraints (line .literal j) .bound)
       → ⊥
   contradiction e named w holds =
-      let n = line .head .count in
+      let n = listedIn line in
       let told = accepted e in
       let sum = sumOf constraints line n in
       let none : total (sum .form) w ≡ pos 0 = vanishes 576 (sum .form) (sum-below n named) (told .zeros) w in

@@ -14,7 +14,7 @@ use Rattle.node.proofs.FileRules.{sizes}
 use Rattle.node.proofs.WellFormedness.{well-formed}
 use Rattle.streams.specs.Nodes.{Node, nodeOf, WellFormedNode}
 use Rattle.streams.proofs.Reading.{all-map}
-use Rattle.constraints.specs.Layout.{Constraint, Line, trailerOf, constraintOf, lineOf}
+use Rattle.constraints.specs.Layout.{Constraint, Line, usedIn, trailerOf, constraintOf, lineOf}
 use Rattle.constraints.specs.Linear.{variable}
 use Rattle.rules.specs.declared.pattern.Clause.{Clause}
 use Rattle.rules.specs.declared.pattern.Place.{Place}
@@ -69,7 +69,7 @@ module _ (node : Node) (formed : WellFormedNode node) (few : node .streams ≤ 6
   -- ---- a line
 
   pub equation-in-satisfied :
-      (constraints : ℕ → Constraint) (m : ℕ) → ((i : ℕ) → i < m → Named (constraints i) (constraints i .head .count))
+      (constraints : ℕ → Constraint) (m : ℕ) → ((i : ℕ) → i < m → Named (constraints i) (usedIn (constraints i)))
       → (offsets : ℕ) → offsets ≤ 9
       → (line : Line) → equationIn (node .streams) (node .kinds) (node .equations) constraints m offsets opening line ≡ true
       → (w : Valuation) → Solves node opening offsets w
@@ -83,7 +83,7 @@ module _ (node : Node) (formed : WellFormedNode node) (few : node .streams ≤ 6
       let inner = both-true (ltb p (node .streams)) (ltb q offsets) (outer .0) in
       let l : p < node .streams = ltb-true p (node .streams) (inner .0) in
       let o : q < offsets = ltb-true q offsets (inner .1) in
-      numbered-satisfied constraints w m (λ i k. below-written (constraints i) (constraints i .head .count) (named i k)) line cs
+      numbered-satisfied constraints w m (λ i k. below-written (constraints i) (usedIn (constraints i)) (named i k)) line cs
       (line .head .r) (row-below p q l (omega arith)) (row-true p q l w (solves .rows q p o l)) (outer .1)
 
 -- ---- a certificate

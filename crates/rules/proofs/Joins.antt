@@ -10,7 +10,7 @@ use borrow.Author.Tests.{eqb-true}
 use lib.Dec.{eqb}
 use Rattle.answers.proofs.Every.{every-all}
 use Rattle.answers.proofs.Tests.{both-true, either-true}
-use Rattle.constraints.specs.Layout.{Constraint, Line}
+use Rattle.constraints.specs.Layout.{Constraint, Line, listedIn}
 use Rattle.literals.specs.Literals.{oppositeOf}
 use Rattle.rules.specs.Joins.{standsFrom, standsIn, coveredBy, covered, joins}
 use Rattle.rules.specs.Satisfaction.{Valuation, literalTrue, Satisfies}
@@ -42,7 +42,7 @@ module _ (constraints : ℕ → Constraint) (w : Valuation) where
   true-literal = literalTrue constraints w
 
   -- a true literal that stands in a line makes the line true
-  stands-satisfied : (line : Line) (l : ℕ) → true-literal l ≡ true → Stands (line .literal) l (0 + line .head .count) → Satisfies constraints w line
+  stands-satisfied : (line : Line) (l : ℕ) → true-literal l ≡ true → Stands (line .literal) l (0 + listedIn line) → Satisfies constraints w line
   stands-satisfied line l t s =
       record { which = s .at; listed = omega (arith, s .below); holds = ap true-literal (s .is) ∙ t }
 
@@ -50,12 +50,12 @@ module _ (constraints : ℕ → Constraint) (w : Valuation) where
   covered-satisfied : (line : Line) (but : ℕ) (other : Line) → covered line but other ≡ true → true-literal but ≡ false → Satisfies constraints w line → Satisfies constraints w other
   covered-satisfied line but other e f s =
       let l = line .literal (s .which) in
-      go l refl (either-true (eqb l but) (standsIn other l) (every-all (coveredBy (line .literal) but (other .literal) (other .head .count)) (line .head .count) e (s .which) (s .listed)))
+      go l refl (either-true (eqb l but) (standsIn other l) (every-all (coveredBy (line .literal) but (other .literal) (listedIn other)) (listedIn line) e (s .which) (s .listed)))
     where
       go : (l : ℕ) → line .literal (s .which) ≡ l → (eqb l but ≡ true) ⊎ (standsIn other l ≡ true) → Satisfies constraints w other
       go l same (inl is) = absurd (false≢true (sym f ∙ ap true-literal (sym (same ∙ eqb-true l but is)) ∙ s .holds))
       go l same (inr there) =
-          stands-satisfied other l (ap true-literal (sym same) ∙ s .holds) (stands (other .literal) l 0 (other .head .count) there)
+          stands-satisfied other l (ap true-literal (sym same) ∙ s .holds) (stands (other .literal) l 0 (listedIn other) there)
 
   pub joined : (p q : Line) (r : ℕ) (line : Line) → joins p q r line ≡ true → Satisfies constraints w p → Satisfies constraints w q → Satisfies constraints w line
   unfolding joins

@@ -11,6 +11,7 @@ use lib.Dec.{leb, ltb, eqb}
 use Rattle.answers.specs.Checks.{every}
 use Rattle.answers.proofs.Tests.{both-true}
 use Rattle.constraints.specs.Layout.{Constraint, Line}
+use Rattle.constraints.proofs.Blocks.{listed-within}
 use Rattle.rules.specs.Joins.{isLower, joins, joinOk}
 use Rattle.rules.specs.Lines.{Window, hasLiterals, hasEmpty}
 use Rattle.rules.specs.Satisfaction.{Valuation, Satisfies}
@@ -68,7 +69,7 @@ module _ (constraints : ℕ → Constraint) (lines : ℕ → Line) (part : Windo
   some-literal : (line : Line) → Satisfies constraints w line → not (eqb (line .head .count) 0) ≡ true
   some-literal line s =
       let listed = s .listed in
-      rw (ne-eqb (line .head .count) 0 (λ (e : line .head .count ≡ 0). omega (arith, listed)))
+      rw (ne-eqb (line .head .count) 0 (λ (e : line .head .count ≡ 0). omega (arith, listed, listed-within line)))
 
   -- something of each line of one kind in the part
   abbrev pub OfKind : (kind : ℕ) → (ℕ → Type 0) → Type 0

@@ -13,6 +13,7 @@ use Rattle.answers.proofs.Tests.{both-true}
 use Rattle.streams.specs.Values.{truth}
 use Rattle.constraints.specs.Layout.{Constraint, Line}
 use Rattle.constraints.specs.Linear.{variable}
+use Rattle.constraints.proofs.Blocks.{is-listed}
 use Rattle.literals.specs.Literals.{positive, negative}
 use Rattle.rules.specs.Lines.{notPropertyAt, basePropertyOk, stepPropertyOk}
 use Rattle.rules.specs.Satisfaction.{Valuation, literalTrue, Satisfies}
@@ -37,7 +38,7 @@ module _ (constraints : ℕ → Constraint) (w : Valuation) (k prop : ℕ) (deep
       let literal = eqb-true (line .literal q) (negative (variable q prop)) (every-all (notPropertyAt prop (line .literal)) _ (all .1) q (omega arith)) in
       record {
         which = q;
-        listed = omega (arith, eqb-true (line .head .count) _ (first .1));
+        listed = is-listed line q (omega (arith, eqb-true (line .head .count) _ (first .1))) (omega arith);
         holds = ap (literalTrue constraints w) literal ∙ not-property q (omega arith) f;
       }
 
@@ -60,7 +61,7 @@ module _ (constraints : ℕ → Constraint) (w : Valuation) (k prop : ℕ) (deep
       let first = both-true (leb q k) (eqb (line .head .count) 1) (all .0) in
       record {
         which = 0;
-        listed = omega (arith, eqb-true (line .head .count) 1 (first .1));
+        listed = is-listed line 0 (omega (arith, eqb-true (line .head .count) 1 (first .1))) (omega arith);
         holds =
             ap (literalTrue constraints w) (eqb-true (line .literal 0) literal (all .1))
             ∙ step-literal before now q (leb-true q k (first .0)) (eqb q k) refl;

@@ -7,7 +7,7 @@ use lib.Dec.{leb}
 use lib.IntN.{pos, negℤ, _+ℤ_, _*ℤ_}
 use lib.Signed.{leZ}
 use Rattle.answers.specs.Checks.{every}
-use Rattle.constraints.specs.Layout.{Constraint, Line}
+use Rattle.constraints.specs.Layout.{Constraint, Line, listedIn}
 use Rattle.constraints.specs.Linear.{Bounded, coefficient, scaled, negated, boundedOf, sameZ}
 use Rattle.literals.specs.Literals.{atomOf, isNegated, isConstraint, constraintNumber}
 
@@ -29,7 +29,7 @@ sumOf constraints line (suc j) =
 -- 20: kind 4 not as above. The variables of a certificate are below 576.
 unfoldable pub arithmeticOk : (ℕ → Constraint) → Line → Bool
 arithmeticOk constraints line =
-    leb 1 (line .head .count)
-    && every (λ j. isConstraint (atomOf (line .literal j))) (line .head .count)
-    && every (λ x. sameZ (coefficient (sumOf constraints line (line .head .count) .form) x) (pos 0)) 576
-    && leZ (sumOf constraints line (line .head .count) .bound) (negℤ (pos 1))
+    leb 1 (listedIn line)
+    && every (λ j. isConstraint (atomOf (line .literal j))) (listedIn line)
+    && every (λ x. sameZ (coefficient (sumOf constraints line (listedIn line) .form) x) (pos 0)) 576
+    && leZ (sumOf constraints line (listedIn line) .bound) (negℤ (pos 1))

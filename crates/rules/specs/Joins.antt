@@ -4,7 +4,7 @@ use Prim.Native.Nat.{ℕ, zero, suc}
 use mathlib.Core.Bool.{Bool, false, _&&_, _||_}
 use lib.Dec.{leb, ltb, eqb}
 use Rattle.answers.specs.Checks.{every}
-use Rattle.constraints.specs.Layout.{Line}
+use Rattle.constraints.specs.Layout.{Line, listedIn}
 use Rattle.literals.specs.Literals.{oppositeOf}
 
 -- the search for a literal among those from j on: "written as a function calling itself on the rest"
@@ -14,7 +14,7 @@ standsFrom literal l j (suc left) = eqb (literal j) l || standsFrom literal l (s
 
 -- a literal stands in a line
 abbrev pub standsIn : Line → (l : ℕ) → Bool
-standsIn line l = standsFrom (line .literal) l 0 (line .head .count)
+standsIn line l = standsFrom (line .literal) l 0 (listedIn line)
 
 -- a literal is the one left out, or stands among the others
 abbrev pub coveredBy : (ℕ → ℕ) → (but : ℕ) → (ℕ → ℕ) → (others j : ℕ) → Bool
@@ -22,7 +22,7 @@ coveredBy literal but other others j = eqb (literal j) but || standsFrom other (
 
 -- each literal of a line but one stands in another
 abbrev pub covered : Line → (but : ℕ) → Line → Bool
-covered line but other = every (coveredBy (line .literal) but (other .literal) (other .head .count)) (line .head .count)
+covered line but other = every (coveredBy (line .literal) but (other .literal) (listedIn other)) (listedIn line)
 
 -- literal r stands in line p and its opposite in line q, and what is left of both stands in the line
 unfoldable pub joins : (p q : Line) → (r : ℕ) → Line → Bool

@@ -1,7 +1,7 @@
 -- What rule 15 leaves of a constraint.
 use Prim.Native.Nat.{ℕ, _≤_, _<_}
 use lib.IntN.{natAbs}
-use Rattle.constraints.specs.Layout.{Constraint}
+use Rattle.constraints.specs.Layout.{Constraint, usedIn}
 use Rattle.constraints.specs.Linear.{variable}
 
 -- the first n terms name variables below 576: 64 streams at nine offsets
@@ -12,5 +12,5 @@ Named c n = (j : ℕ) → j < n → variable (c .term j .offset) (c .term j .str
 pub record Limited (c : Constraint) : Type 0 where
   pub few : c .head .count ≤ 8
   pub bound : natAbs (c .head .bound) ≤ 100000000000
-  pub variables : Named c (c .head .count)
-  pub coefficients : (j : ℕ) → j < c .head .count → natAbs (c .term j .coefficient) ≤ 1000000000
+  pub variables : Named c (usedIn c)
+  pub coefficients : (j : ℕ) → j < usedIn c → natAbs (c .term j .coefficient) ≤ 1000000000

@@ -6,7 +6,7 @@ use lib.Dec.{leb}
 use lib.IntN.{ℤ}
 use lib.Signed.{leZ}
 use Rattle.streams.specs.Values.{truth}
-use Rattle.constraints.specs.Layout.{Constraint, Line}
+use Rattle.constraints.specs.Layout.{Constraint, Line, listedIn}
 use Rattle.constraints.specs.Linear.{Bounded, total, boundedOf as ofConstraint}
 use Rattle.rules.specs.declared.pattern.Clause.{Clause}
 use Rattle.rules.specs.declared.pattern.Pattern.{Pattern}
@@ -34,7 +34,7 @@ literalTrue constraints w l =
 -- a window satisfies a line: one of its literals is true
 pub record Satisfies (constraints : ℕ → Constraint) (w : Valuation) (line : Line) : Type 0 where
   pub which : ℕ
-  pub listed : which < line .head .count
+  pub listed : which < listedIn line
   pub holds : literalTrue constraints w (line .literal which) ≡ true
 
 -- a literal of an operator's clause

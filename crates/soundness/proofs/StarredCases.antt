@@ -19,6 +19,7 @@ use Rattle.node.specs.Rules.{lengthOk, fixedOk, countsOk, distanceOk, unusedOk,
 use Rattle.node.specs.Table.{rowOf}
 use Rattle.node.specs.Verdict.{recordsVerdict, verdictOf as nodeVerdict}
 use Rattle.node.specs.Written.{recordBytes, trailerBytes, nodeFile}
+use Rattle.constraints.specs.Layout.{usedIn, listedIn}
 use Rattle.constraints.specs.Linear.{written}
 use Rattle.constraints.specs.Rules.{fixedOk as certFixed, countsOk as certCounts, distanceOk as certDistance, constraintOk, termOk, usedOk, rises, unusedOk as termUnused}
 use Rattle.rules.specs.Literals.{namesAtom}
@@ -85,15 +86,15 @@ unfolding doubling nodeFile recordBytes trailerBytes nodeVerdict recordsVerdict 
 least-doubled = record { node = record { streams = 3; property = 2 }; is-accepted = refl; answered = refl; values = refl }
 
 opposites-pass : Holds (checks trueAndInts (opposites (minusOne 8) (noughts 8)) (accepted (record { depth = 1; base = 4; step = 3 })))
-unfolding trueAndInts opposites atMost nodeFile recordBytes trailerBytes nodeVerdict recordsVerdict lengthOk fixedOk countsOk distanceOk lowest shapeOk unusedOk operandsOk typesOk propertyOk rowOf recordsOf recordAmong twosComplement line certificateFile certFixed certCounts certDistance verdictOf fileVerdict beforeLines constraintsVerdict partsVerdict linesVerdict every shapePasses lineShape slotOk numbersOk namesAtom lineFault kindFault kindAmong decoded equationIn clauseIs basePropertyOk stepPropertyOk standsFrom joins joinOk constraintOk termOk usedOk rises termUnused written sumOf arithmeticOk
+unfolding trueAndInts opposites atMost nodeFile recordBytes trailerBytes nodeVerdict recordsVerdict lengthOk fixedOk countsOk distanceOk lowest shapeOk unusedOk operandsOk typesOk propertyOk rowOf recordsOf recordAmong twosComplement line certificateFile certFixed certCounts certDistance verdictOf fileVerdict beforeLines constraintsVerdict partsVerdict linesVerdict every shapePasses lineShape slotOk numbersOk namesAtom lineFault kindFault kindAmong decoded equationIn clauseIs basePropertyOk stepPropertyOk listedIn standsFrom joins joinOk constraintOk termOk usedOk rises termUnused usedIn written sumOf arithmeticOk
 opposites-pass = refl
 
 opposites-fail : Holds (checks trueAndInts (opposites (noughts 8) (noughts 8)) (refused 20 (AtLine 3)))
-unfolding trueAndInts opposites atMost nodeFile recordBytes trailerBytes nodeVerdict recordsVerdict lengthOk fixedOk countsOk distanceOk lowest shapeOk unusedOk operandsOk typesOk propertyOk rowOf recordsOf recordAmong twosComplement line certificateFile certFixed certCounts certDistance verdictOf fileVerdict beforeLines constraintsVerdict partsVerdict linesVerdict every shapePasses lineShape slotOk numbersOk namesAtom lineFault kindFault kindAmong decoded equationIn clauseIs basePropertyOk stepPropertyOk standsFrom joins joinOk constraintOk termOk usedOk rises termUnused written sumOf arithmeticOk
+unfolding trueAndInts opposites atMost nodeFile recordBytes trailerBytes nodeVerdict recordsVerdict lengthOk fixedOk countsOk distanceOk lowest shapeOk unusedOk operandsOk typesOk propertyOk rowOf recordsOf recordAmong twosComplement line certificateFile certFixed certCounts certDistance verdictOf fileVerdict beforeLines constraintsVerdict partsVerdict linesVerdict every shapePasses lineShape slotOk numbersOk namesAtom lineFault kindFault kindAmong decoded equationIn clauseIs basePropertyOk stepPropertyOk listedIn standsFrom joins joinOk constraintOk termOk usedOk rises termUnused usedIn written sumOf arithmeticOk
 opposites-fail = refl
 
 depth-8 : Holds (checks constantTrue (ofDepth 8) (accepted (record { depth = 8; base = 17; step = 3 })))
-unfolding constantTrue ofDepth nodeFile recordBytes trailerBytes nodeVerdict recordsVerdict lengthOk fixedOk countsOk distanceOk lowest shapeOk unusedOk operandsOk typesOk propertyOk rowOf recordsOf recordAmong twosComplement line certificateFile certFixed certCounts certDistance verdictOf fileVerdict beforeLines constraintsVerdict partsVerdict linesVerdict every shapePasses lineShape slotOk numbersOk namesAtom lineFault kindFault kindAmong decoded equationIn clauseIs basePropertyOk stepPropertyOk standsFrom joins joinOk
+unfolding constantTrue ofDepth nodeFile recordBytes trailerBytes nodeVerdict recordsVerdict lengthOk fixedOk countsOk distanceOk lowest shapeOk unusedOk operandsOk typesOk propertyOk rowOf recordsOf recordAmong twosComplement line certificateFile certFixed certCounts certDistance verdictOf fileVerdict beforeLines constraintsVerdict partsVerdict linesVerdict every shapePasses lineShape slotOk numbersOk namesAtom lineFault kindFault kindAmong decoded equationIn clauseIs basePropertyOk stepPropertyOk listedIn standsFrom joins joinOk
 depth-8 = refl
 
 depth-9 : Holds (checks constantTrue (ofDepth 9) (refused 13 File))
@@ -109,11 +110,11 @@ unfolding ofSize nodeFile recordBytes trailerBytes nodeVerdict recordsVerdict le
 size-65 = refl
 
 bands-whole : Holds (checks twoBands bandsWhole (accepted (record { depth = 1; base = 12; step = 12 })))
-unfolding twoBands bandsWhole nodeFile recordBytes trailerBytes nodeVerdict recordsVerdict lengthOk fixedOk countsOk distanceOk lowest shapeOk unusedOk operandsOk typesOk propertyOk rowOf recordsOf recordAmong twosComplement line certificateFile certFixed certCounts certDistance verdictOf fileVerdict beforeLines constraintsVerdict partsVerdict linesVerdict every shapePasses lineShape slotOk numbersOk namesAtom lineFault kindFault kindAmong decoded equationIn clauseIs basePropertyOk stepPropertyOk standsFrom joins joinOk
+unfolding twoBands bandsWhole nodeFile recordBytes trailerBytes nodeVerdict recordsVerdict lengthOk fixedOk countsOk distanceOk lowest shapeOk unusedOk operandsOk typesOk propertyOk rowOf recordsOf recordAmong twosComplement line certificateFile certFixed certCounts certDistance verdictOf fileVerdict beforeLines constraintsVerdict partsVerdict linesVerdict every shapePasses lineShape slotOk numbersOk namesAtom lineFault kindFault kindAmong decoded equationIn clauseIs basePropertyOk stepPropertyOk listedIn standsFrom joins joinOk
 bands-whole = refl
 
 no-base-lines : Holds (checks twoBands stepAlone (refused 21 Base))
-unfolding twoBands stepAlone nodeFile recordBytes trailerBytes nodeVerdict recordsVerdict lengthOk fixedOk countsOk distanceOk lowest shapeOk unusedOk operandsOk typesOk propertyOk rowOf recordsOf recordAmong twosComplement line certificateFile certFixed certCounts certDistance verdictOf fileVerdict beforeLines constraintsVerdict partsVerdict linesVerdict every shapePasses lineShape slotOk numbersOk namesAtom lineFault kindFault kindAmong decoded equationIn clauseIs basePropertyOk stepPropertyOk standsFrom joins joinOk
+unfolding twoBands stepAlone nodeFile recordBytes trailerBytes nodeVerdict recordsVerdict lengthOk fixedOk countsOk distanceOk lowest shapeOk unusedOk operandsOk typesOk propertyOk rowOf recordsOf recordAmong twosComplement line certificateFile certFixed certCounts certDistance verdictOf fileVerdict beforeLines constraintsVerdict partsVerdict linesVerdict every shapePasses lineShape slotOk numbersOk namesAtom lineFault kindFault kindAmong decoded equationIn clauseIs basePropertyOk stepPropertyOk listedIn standsFrom joins joinOk
 no-base-lines = refl
 
 pub starred : Starred

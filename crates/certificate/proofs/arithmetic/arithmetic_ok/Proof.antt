@@ -11,7 +11,8 @@ use mir.Syntax.{w64}
 use mir.Val.{SFits}
 use mir.Facts.{toZ-ofZ}
 use Rattle.constraints.specs.declared.layout.LineHead.{LineHead}
-use Rattle.constraints.specs.Layout.{lineAt}
+use Rattle.constraints.specs.Layout.{lineAt, listedIn}
+use Rattle.constraints.proofs.Blocks.{listed-is}
 use Rattle.certificate.specs.Sums.{constraintsFrom, sumsOf}
 use Rattle.certificate.specs.Checkable.{Usable}
 use Rattle.certificate.proofs.Adding.{length-sums}
@@ -25,6 +26,12 @@ line-head-requires c κs = search needs
 cast-count : tie.Need-cast-count
 cast-count c = search needs
 
+-- the count as it was read
+listed : (c : tie.After-line-head) → let s = c .before .before in c .line-head .result .count ≡ listedIn (lineAt (s .args .file .now) (s .args .at))
+listed c =
+    let s = c .before .before in
+    ap (λ (h : LineHead). h .count) (c .line-head .ensures) ∙ sym (listed-is (lineAt (s .args .file .now) (s .args .at)) (s .pre .0 .few))
+
 returns : tie.Need-returns
 returns c =
     let head = c .before .before in
@@ -32,7 +39,7 @@ returns c =
     let constraints = constraintsFrom (s .args .file .now) (s .args .start) in
     let line = lineAt (s .args .file .now) (s .args .at) in
     let count = head .line-head .result .count in
-    let count-is = ap (λ (h : LineHead). h .count) (head .line-head .ensures) in
+    let count-is = listed head in
     (ends-none constraints line count count-is (c .if1 .taken), s .pre .1 ∙ after-none constraints line count count-is (c .if1 .taken))
 
 few : (c : tie.Else1) → c .before .before .line-head .result .count ≤ 12
@@ -50,7 +57,7 @@ returns-2 c =
     let constraints = constraintsFrom (s .args .file .now) (s .args .start) in
     let line = lineAt (s .args .file .now) (s .args .at) in
     let count = head .line-head .result .count in
-    let count-is = ap (λ (h : LineHead). h .count) (head .line-head .ensures) in
+    let count-is = listed head in
     let other = sym (c .before .are-constraints .ensures) ∙ not-true _ (c .if2 .taken) in (
       ends-other constraints line count count-is (c .before .before .if1 .left) other,
       s .pre .1 ∙ after-other constraints line count count-is other,
@@ -106,7 +113,7 @@ returns-3 c =
     let s = head .before .before in
     let constraints = constraintsFrom (s .args .file .now) (s .args .start) in
     let line = lineAt (s .args .file .now) (s .args .at) in
-    let count-is = ap (λ (h : LineHead). h .count) (head .line-head .ensures) in
+    let count-is = listed head in
     let all = sym (on .before .are-constraints .ensures) ∙ not-false _ (on .if2 .left) in
     let f : SFits w64 (bound .bound-of .result) = search needs in (
       rw (c .are-zero .ensures, toZ-ofZ f)

@@ -1,13 +1,15 @@
 -- `certificate::same_content` meets its contract: the three tests in a row, of the head as it was read.
 -- Assumes nothing.
-use mathlib.Core.Path.{_≡_, _∙_, ap, ap₂}
+use mathlib.Core.Path.{_≡_, sym, _∙_, ap, ap₂}
 use mathlib.Core.Bool.{_&&_}
+use Prim.Native.Nat.{ℕ}
 use denote.Ref.{now}
 use mir.Facts.{toZ-ofZ}
 use borrow.Author.Needs.{needs}
 use Rattle.constraints.specs.declared.layout.ConstraintHead.{ConstraintHead}
-use Rattle.constraints.specs.Layout.{Constraint, constraintAt}
+use Rattle.constraints.specs.Layout.{Constraint, constraintAt, usedIn}
 use Rattle.constraints.specs.Linear.{written, sameZ, agreeAt, sameContent}
+use Rattle.constraints.proofs.Blocks.{used-is}
 use Rattle.rules.specs.Clauses.{boundedOf}
 use Rattle.certificate.proofs.content.same_content.Statement.{statement}
 use Rattle.certificate.proofs.content.same_content.Tie as tie
@@ -41,6 +43,9 @@ module _ (c : tie.After-do-variables-agree) where
   head-is : c .before .before .before .before .before .before .constraint-head .result ≡ file-constraint .head
   head-is = c .before .before .before .before .before .before .constraint-head .ensures
 
+  count-is : c .before .before .before .before .before .before .constraint-head .result .count ≡ usedIn file-constraint
+  count-is = ap (λ (h : ConstraintHead). h .count) head-is ∙ sym (used-is file-constraint (start .pre .1))
+
   bounds : c .before .before .same-number .result ≡ sameZ (file-constraint .head .bound) (start .args .d .bound)
   bounds =
       c .before .before .same-number .ensures
@@ -50,19 +55,19 @@ module _ (c : tie.After-do-variables-agree) where
       ∙ ap (λ (h : ConstraintHead). h .bound) head-is)
       (toZ-ofZ (record { sfits = c .before .before .before .struct-told2 .given .1 .1 .1 .1 .1 .1 .0 .1 }))
 
-  terms : c .before .do-terms-agree .result ≡ agreeAt (written file-constraint (file-constraint .head .count)) (boundedOf (start .args .d) .form) (written file-constraint (file-constraint .head .count))
+  terms : c .before .do-terms-agree .result ≡ agreeAt (written file-constraint (usedIn file-constraint)) (boundedOf (start .args .d) .form) (written file-constraint (usedIn file-constraint))
   terms =
       c .before .do-terms-agree .ensures
       ∙ ap
-      (λ (h : ConstraintHead). agreeAt (written file-constraint (h .count)) (boundedOf (start .args .d) .form) (written file-constraint (h .count)))
-      head-is
+      (λ (n : ℕ). agreeAt (written file-constraint n) (boundedOf (start .args .d) .form) (written file-constraint n))
+      count-is
 
-  variables : c .do-variables-agree .result ≡ agreeAt (written file-constraint (file-constraint .head .count)) (boundedOf (start .args .d) .form) (boundedOf (start .args .d) .form)
+  variables : c .do-variables-agree .result ≡ agreeAt (written file-constraint (usedIn file-constraint)) (boundedOf (start .args .d) .form) (boundedOf (start .args .d) .form)
   variables =
       c .do-variables-agree .ensures
       ∙ ap
-      (λ (h : ConstraintHead). agreeAt (written file-constraint (h .count)) (boundedOf (start .args .d) .form) (boundedOf (start .args .d) .form))
-      head-is
+      (λ (n : ℕ). agreeAt (written file-constraint n) (boundedOf (start .args .d) .form) (boundedOf (start .args .d) .form))
+      count-is
 
 returns : tie.Need-returns
 unfolding sameContent

@@ -10,6 +10,7 @@ use borrow.Author.Tests.{not-true, not-false}
 use denote.Ref.{now}
 use Rattle.constraints.specs.declared.layout.LineHead.{LineHead}
 use Rattle.constraints.specs.Layout.{Line, lineAt}
+use Rattle.constraints.proofs.Blocks.{listed-is}
 use Rattle.literals.specs.Literals.{oppositeOf}
 use Rattle.rules.specs.Joins.{standsFrom, standsIn, joins}
 use Rattle.certificate.proofs.joins.is_join.Statement.{statement}
@@ -57,8 +58,8 @@ stands-from-requires-2 c κs =
     (here .before .before .before .before .before .before .before .pre .0 .1, few-q (here .before .before))
 
 -- a search over the head that was read is one over the line's
-searched : (literal : ℕ → ℕ) (l m : ℕ) (read head : LineHead) → l ≡ m → read ≡ head → standsFrom literal l 0 (read .count - 0) ≡ standsFrom literal m 0 (head .count)
-searched literal l m read head e f = rw (e, f, sub-zero)
+searched : (line : Line) (l m : ℕ) (read : LineHead) → l ≡ m → read ≡ line .head → line .head .count ≤ 12 → standsFrom (line .literal) l 0 (read .count - 0) ≡ standsIn line m
+searched line l m read e f few = rw (e, f, sub-zero, listed-is line few)
 
 -- what both searches say, of the lines
 module _ (c : tie.After-stands-from2) where
@@ -77,15 +78,21 @@ module _ (c : tie.After-stands-from2) where
   abbrev q : Line
   q = lineAt bytes (in-p .before .before .before .args .q)
 
+  abbrev line : Line
+  line = lineAt bytes (in-p .before .before .before .args .at)
+
   abbrev r : ℕ
   r = in-p .before .before .before .args .r .0
 
+  few : (p .head .count ≤ 12) × (q .head .count ≤ 12) × (line .head .count ≤ 12)
+  few = in-p .before .before .before .pre .1
+
   in-p-is : c .before .stands-from .result ≡ standsIn p r
-  in-p-is = c .before .stands-from .ensures ∙ searched (p .literal) r r _ (p .head) refl (in-p .line-head .ensures)
+  in-p-is = c .before .stands-from .ensures ∙ searched p r r _ refl (in-p .line-head .ensures) (few .0)
 
   in-q-is : c .stands-from2 .result ≡ standsIn q (oppositeOf r)
   in-q-is =
-      c .stands-from2 .ensures ∙ searched (q .literal) _ (oppositeOf r) _ (q .head) (in-p .before .opposite .ensures) (here .before .before .line-head2 .ensures)
+      c .stands-from2 .ensures ∙ searched q _ (oppositeOf r) _ (in-p .before .opposite .ensures) (here .before .before .line-head2 .ensures) (few .1)
 
   pub both-are : (c .before .stands-from .result && c .stands-from2 .result) ≡ (standsIn p r && standsIn q (oppositeOf r))
   both-are =
@@ -115,7 +122,18 @@ returns-2 c =
     let in-q = here .before .before in
     let in-p = in-q .before .before in
     let stand = sym (both-are tests) ∙ not-false _ (c .before .before .if1 .left) in
-    rw (stand, c .before .covers .ensures, c .covers2 .ensures, here .line-head3 .ensures, in-q .line-head2 .ensures, in-p .line-head .ensures, in-p .before .opposite .ensures)
+    rw (
+      stand,
+      c .before .covers .ensures,
+      c .covers2 .ensures,
+      here .line-head3 .ensures,
+      in-q .line-head2 .ensures,
+      in-p .line-head .ensures,
+      in-p .before .opposite .ensures,
+      listed-is (p tests) (few tests .0),
+      listed-is (q tests) (few tests .1),
+      listed-is (line tests) (few tests .2),
+    )
 
 pub is-join-spec : {M : Type 1} → statement M
 is-join-spec =

@@ -11,10 +11,11 @@ use mir.Val.{toZ}
 use mir.Facts.{toZ-ofZ}
 use Rattle.integers.proofs.Reading.{rd}
 use Rattle.constraints.specs.declared.layout.ConstraintHead.{ConstraintHead}
-use Rattle.constraints.specs.Layout.{constraintAt, headAt}
+use Rattle.constraints.specs.Layout.{constraintAt, usedIn}
 use Rattle.constraints.specs.Linear.{scaled, written}
+use Rattle.constraints.proofs.Blocks.{used-few}
 use Rattle.certificate.specs.Sums.{addForm}
-use Rattle.certificate.proofs.Turns.{term-fits, term-turn}
+use Rattle.certificate.proofs.Turns.{count-used, term-fits, term-turn}
 use Rattle.certificate.proofs.terms.add_terms.Statement.{statement}
 use Rattle.certificate.proofs.terms.add_terms.Tie as tie
 
@@ -45,9 +46,9 @@ weighted-at-requires : tie.Need-weighted-at-requires Inv-loop μ-loop
 weighted-at-requires c κs =
     let head = c .before .before .before .before in
     let s = head .before .before in
-    let e = ap (λ (h : ConstraintHead). h .count) (head .constraint-head .ensures) in
-    let l : c .before .before .loop .j < headAt (s .args .file .now) (s .args .at) .count = omega (arith, e) in (
-      (s .pre .0 .room, omega (arith, s .pre .0 .limited .few)),
+    let e = count-used (s .args .file .now) (s .args .at) (s .pre .0) _ (head .constraint-head .ensures) in
+    let l : c .before .before .loop .j < usedIn (constraintAt (s .args .file .now) (s .args .at)) = omega (arith, e) in (
+      (s .pre .0 .room, omega (arith, used-few (constraintAt (s .args .file .now) (s .args .at)))),
       (rw (toZ-ofZ (s .fits .factor)) (s .pre .1 .0), s .pre .0 .limited .coefficients (c .before .before .loop .j) l),
     )
 
@@ -55,8 +56,8 @@ named-below : (c : tie.After-weighted-at Inv-loop μ-loop) → c .before .variab
 named-below c =
     let head = c .before .before .before .before .before in
     let s = head .before .before in
-    let e = ap (λ (h : ConstraintHead). h .count) (head .constraint-head .ensures) in
-    let l : c .before .before .before .loop .j < headAt (s .args .file .now) (s .args .at) .count = omega (arith, e) in
+    let e = count-used (s .args .file .now) (s .args .at) (s .pre .0) _ (head .constraint-head .ensures) in
+    let l : c .before .before .before .loop .j < usedIn (constraintAt (s .args .file .now) (s .args .at)) = omega (arith, e) in
     rw (c .before .variable-at .ensures) (s .pre .0 .limited .variables (c .before .before .before .loop .j) l)
 
 slice-copy-out-sums : tie.Need-slice-copy-out-sums Inv-loop μ-loop
@@ -72,8 +73,8 @@ add-sums c =
     let at-loop = c .before .before .before .before in
     let head = at-loop .before .before in
     let s = head .before .before in
-    let e = ap (λ (h : ConstraintHead). h .count) (head .constraint-head .ensures) in
-    let l : at-loop .loop .j < headAt (s .args .file .now) (s .args .at) .count = omega (arith, e) in
+    let e = count-used (s .args .file .now) (s .args .at) (s .pre .0) _ (head .constraint-head .ensures) in
+    let l : at-loop .loop .j < usedIn (constraintAt (s .args .file .now) (s .args .at)) = omega (arith, e) in
     let small : natAbs (rd w64 (s .args .factor)) ≤ 1000000 = rw (toZ-ofZ (s .fits .factor)) (s .pre .1 .0) in
     term-fits (s .args .file .now) (s .args .at) (s .pre .0) (rd w64 (s .args .factor)) small (s .args .sums .now)
     (s .pre .1 .1 .0)
@@ -104,8 +105,8 @@ loop-again c =
     let at-loop = c .before .before .before .before in
     let head = at-loop .before .before in
     let s = head .before .before in
-    let e = ap (λ (h : ConstraintHead). h .count) (head .constraint-head .ensures) in
-    let l : at-loop .loop .j < headAt (s .args .file .now) (s .args .at) .count = omega (arith, e) in
+    let e = count-used (s .args .file .now) (s .args .at) (s .pre .0) _ (head .constraint-head .ensures) in
+    let l : at-loop .loop .j < usedIn (constraintAt (s .args .file .now) (s .args .at)) = omega (arith, e) in
     let small : natAbs (rd w64 (s .args .factor)) ≤ 1000000 = rw (toZ-ofZ (s .fits .factor)) (s .pre .1 .0) in (
       search needs,
       simp length-set (at-loop .loop .inv .1),
@@ -129,8 +130,8 @@ returns : tie.Need-returns Inv-loop μ-loop
 returns c =
     let head = c .before .before .before in
     let s = head .before .before in
-    let e = ap (λ (h : ConstraintHead). h .count) (head .constraint-head .ensures) in
-    let j-is : c .before .loop .j ≡ headAt (s .args .file .now) (s .args .at) .count = omega (arith, e) in
+    let e = count-used (s .args .file .now) (s .args .at) (s .pre .0) _ (head .constraint-head .ensures) in
+    let j-is : c .before .loop .j ≡ usedIn (constraintAt (s .args .file .now) (s .args .at)) = omega (arith, e) in
     rw (toZ-ofZ (s .fits .factor), j-is) at (c .before .loop .inv .2)
 
 pub add-terms-spec : {M : Type 1} → statement M

@@ -14,9 +14,10 @@ use mir.ValLaws.{toZ-ofZ}
 use Rattle.answers.specs.Checks.{every}
 use Rattle.answers.proofs.Every.{every-none, every-more, every-not}
 use Rattle.constraints.specs.declared.layout.ConstraintHead.{ConstraintHead}
-use Rattle.constraints.specs.Layout.{constraintAt, headAt}
+use Rattle.constraints.specs.Layout.{constraintAt, usedIn}
 use Rattle.constraints.specs.Linear.{sameZ}
 use Rattle.certificate.specs.Sums.{zeroAt}
+use Rattle.certificate.proofs.Turns.{count-used}
 use Rattle.certificate.proofs.terms.are_terms_zero.Statement.{statement}
 use Rattle.certificate.proofs.terms.are_terms_zero.Tie as tie
 
@@ -45,8 +46,8 @@ below : (c : tie.After-variable-at Inv-loop μ-loop) → c .variable-at .result 
 below c =
     let head = c .before .before .before .before in
     let s = head .before .before in
-    let e = ap (λ (h : ConstraintHead). h .count) (head .constraint-head .ensures) in
-    let l : c .before .before .loop .j < headAt (s .args .file .now) (s .args .at) .count = omega (arith, e) in
+    let e = count-used (s .args .file .now) (s .args .at) (s .pre .0) _ (head .constraint-head .ensures) in
+    let l : c .before .before .loop .j < usedIn (constraintAt (s .args .file .now) (s .args .at)) = omega (arith, e) in
     rw (c .variable-at .ensures) (s .pre .0 .limited .variables (c .before .before .loop .j) l)
 
 mul-sum : tie.Need-mul-sum Inv-loop μ-loop
@@ -68,7 +69,8 @@ test-is c =
 returns : tie.Need-returns Inv-loop μ-loop
 returns c =
     let head = c .before .before .before .before .before .before in
-    let e = ap (λ (h : ConstraintHead). h .count) (head .constraint-head .ensures) in
+    let s = head .before .before in
+    let e = count-used (s .args .file .now) (s .args .at) (s .pre .0) _ (head .constraint-head .ensures) in
     sym (every-not _ (c .before .before .before .before .loop .j) _ (omega (arith, e))
     (sym (test-is (c .before)) ∙ not-true _ (c .if1 .taken)))
 
@@ -86,8 +88,8 @@ returns-2 : tie.Need-returns-2 Inv-loop μ-loop
 returns-2 c =
     let head = c .before .before .before in
     let s = head .before .before in
-    let e = ap (λ (h : ConstraintHead). h .count) (head .constraint-head .ensures) in
-    let j-is : c .before .loop .j ≡ headAt (s .args .file .now) (s .args .at) .count = omega (arith, e) in
+    let e = count-used (s .args .file .now) (s .args .at) (s .pre .0) _ (head .constraint-head .ensures) in
+    let j-is : c .before .loop .j ≡ usedIn (constraintAt (s .args .file .now) (s .args .at)) = omega (arith, e) in
     sym (rw j-is at (c .before .loop .inv .1))
 
 pub are-terms-zero-spec : {M : Type 1} → statement M
