@@ -2,20 +2,23 @@
 -- Assumes nothing.
 use mathlib.Core.Path.{_≡_, refl, sym, _∙_, ap}
 use mathlib.Core.Bool.{Bool, true, false, cond}
-use mathlib.Core.List.{List, [], _∷_}
+use mathlib.Core.List.{List, [], _∷_, _++_}
 use Prim.Native.Nat.{ℕ, zero, suc, _+_, _-_, _*_, _<_, _≤_}
 use native.Mathlib.Nat.{le-of-suc-le-suc, not-suc-le-zero}
 use native.Mathlib.Omega.{arith}
 use borrow.Author.Tests.{lt-ltb, le-ltb, ltb-true, ltb-false}
 use lib.Dec.{ltb}
 use lib.IntN.{ℤ, pos}
-use lib.ListN.{length, getD, take, drop, length-drop}
-use lib.Seq.{ext-getD, take-length}
+use lib.ListN.{length, getD, take, drop, replicate, length-drop, length-append, length-replicate}
+use lib.Seq.{ext-getD, take-length, take-at, length-take-le}
 use Rattle.answers.proofs.FromTheFront.{below}
 use Rattle.fields.specs.Fields.{u16At, i64At}
+use Rattle.answers.specs.Answer.{instantAnswer}
+use Rattle.answers.specs.declared.InstantVerdict.{InstantVerdict}
+use Rattle.session.specs.Instants.{answerOf, sessionOf, sliceOf}
 use Rattle.session.specs.Lists.{Call, after, afterAll}
 use Rattle.session.specs.declared.Session.{Session}
-use Rattle.run_passes.specs.Pass.{sizeOf, firstSize, countAt, inputAt, inputsFrom, callOf, callsWithin, callsOf}
+use Rattle.run_passes.specs.Pass.{sizeOf, firstSize, countAt, inputAt, inputsFrom, callOf, callsWithin, callsOf, MadeOf, Leads}
 
 module _ (calls : List ℕ) where
   pub size-none : length calls < 4 → 0 ≡ firstSize calls
@@ -108,6 +111,30 @@ module _ (call : List ℕ) where
 
   pub inputs-counted : (n : ℕ) (l : List ℤ) → l ≡ inputsFrom call 0 65 → n ≡ countAt call 0 → take n l ≡ inputsFrom call 0 (countAt call 0)
   inputs-counted n l e f = rw (e, f) (inputs-taken (countAt call 0) 65 0 (count-most call 0))
+
+-- the first values of a slice of sevens are such a slice
+pub sevens-taken : (n m : ℕ) → n ≤ m → take n (replicate m (pos 7)) ≡ replicate n (pos 7)
+sevens-taken zero m h = refl
+sevens-taken (suc n) zero h = absurd (not-suc-le-zero h)
+sevens-taken (suc n) (suc m) h = ap (λ (l : List ℤ). pos 7 ∷ l) (sevens-taken n m (le-of-suc-le-suc h))
+
+-- what a step on a call's inputs and on its part of a slice gives is what the call gives
+module _ {s next : Session} {answer : InstantVerdict} (call : List ℕ) {inputs lent left : List ℤ} {room : ℕ}
+    (is-inputs : inputs ≡ inputsFrom call 0 (countAt call 0)) (is-room : room ≡ countAt call 2) (is-lent : lent ≡ replicate room (pos 7))
+    (same : length left ≡ length lent)
+    (is : (instantAnswer answer ≡ answerOf s inputs (length lent)) × (next ≡ sessionOf s inputs (length lent)) × (left ≡ sliceOf s inputs lent))
+  where
+    pub made-of : (rest : List ℤ) → MadeOf s (callOf call) answer next (take room (left ++ rest)) × Leads room (left ++ rest)
+    made-of rest =
+        let size : length left ≡ room = same ∙ ap length is-lent ∙ length-replicate room (pos 7) in
+        let leads : room ≤ length (left ++ rest) = omega (arith, length-append left rest) in (
+          record {
+            answers = rw (is-lent, is-inputs, is-room) at (is .0);
+            moves = rw (is-lent, is-inputs, is-room) at (is .1);
+            leaves = take-at left rest room size ∙ rw (is-lent, is-inputs, is-room) at (is .2);
+          },
+          (leads, sym (length-take-le room (left ++ rest) leads)),
+        )
 
 module _ (calls : List ℕ) where
   none-within : (turns : ℕ) → firstSize calls ≤ 0 → callsWithin turns calls ≡ []

@@ -1,13 +1,17 @@
 -- A pass file, this repository's own format: a list of calls, each a u16 count of inputs, a u16 length of the slice and the inputs,
 -- signed and of 64 bits; all little-endian.
-use Prim.Native.Nat.{ℕ, zero, suc, _+_, _*_}
+use mathlib.Core.Path.{_≡_}
+use Prim.Native.Nat.{ℕ, zero, suc, _+_, _*_, _≤_}
 use mathlib.Core.Bool.{cond}
 use mathlib.Core.List.{List, [], _∷_}
 use lib.Dec.{ltb}
 use lib.IntN.{ℤ, pos}
 use lib.ListN.{length, take, drop, replicate}
 use Rattle.fields.specs.Fields.{u16At, i64At}
-use Rattle.session.specs.Lists.{Call}
+use Rattle.answers.specs.Answer.{instantAnswer}
+use Rattle.answers.specs.declared.InstantVerdict.{InstantVerdict}
+use Rattle.session.specs.declared.Session.{Session}
+use Rattle.session.specs.Lists.{Call, answerTo, after, sliceAfter}
 
 -- how many bytes a call has, by its count
 abbrev pub sizeOf : List ℕ → ℕ
@@ -37,6 +41,16 @@ inputsFrom call i (suc n) = inputAt call i ∷ inputsFrom call (suc i) n
 -- the call that is made: the inputs that it counts, and a slice of sevens
 abbrev pub callOf : List ℕ → Call
 callOf call = record { inputs = inputsFrom call 0 (countAt call 0); slice = replicate (countAt call 2) (pos 7) }
+
+-- what a call gives: its answer, the session after it, and its slice
+pub record MadeOf (s : Session) (c : Call) (answer : InstantVerdict) (next : Session) (slice : List ℤ) : Type 0 where
+  pub answers : instantAnswer answer ≡ answerTo s c
+  pub moves : next ≡ after s c
+  pub leaves : slice ≡ sliceAfter s c
+
+-- n counts leading values of a list, in both forms, so that the proof that Rattle makes of a caller's `&slice[..n]` finds it
+abbrev pub Leads : ℕ → List ℤ → Type 0
+Leads n l = (n ≤ length l) × (n ≡ length (take n l))
 
 -- the calls of a pass file in turn, found in at most so many turns
 unfoldable pub callsWithin : (turns : ℕ) → List ℕ → List Call

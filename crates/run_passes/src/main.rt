@@ -8,11 +8,10 @@ use session::Session;
 use session::begun;
 use session::step;
 ghost use mathlib.Core.Path.{_≡_};
-ghost use lib.ListN.{length};
-ghost use Rattle.session.specs.Instants.{sessionOf, sliceOf};
+ghost use lib.ListN.{take};
 ghost use Rattle.session.specs.Lists.{after, afterAll};
 ghost use Rattle.session.specs.Records.{begunOf};
-ghost use Rattle.run_passes.specs.Pass.{callOf, callsOf};
+ghost use Rattle.run_passes.specs.Pass.{callOf, callsOf, MadeOf, Leads};
 ghost use Rattle.run_passes.specs.Zeroed.{zeroed};
 
 mod bytes;
@@ -76,26 +75,43 @@ fn say_answer(answer: InstantVerdict, slice: &[i64]) {
     say::text(b"\n");
 }
 
-// The session after a call.
-fn stepped(s: Session, inputs: &[i64], slice: &mut [i64]) -> Session
-    ensures { λ r. ⌜ (r ≡ sessionOf s (now (inputs .entry)) (length (now (slice .entry))))
-        × (now (slice .exit) ≡ sliceOf s (now (inputs .entry)) (now (slice .entry))) ⌝ }
-{
-    let t = step(s, inputs, slice);
-    let answer = t.answer;
-    say_answer(answer, slice);
-    t.session
+// A call of a pass, made: its answer, the session after it, and the slice, of which the call was lent the first `room` values.
+struct Made {
+    answer: InstantVerdict,
+    session: Session,
+    slice: [i64; 65],
+    room: usize,
 }
 
-// The session after a call of a pass.
-fn called(s: Session, call: &[u8]) -> Session
-    ensures { λ r. ⌜ r ≡ after s (callOf (now (call .entry))) ⌝ }
+fn make_call(s: Session, call: &[u8]) -> Made
+    ensures { λ r. ⌜ MadeOf s (callOf (now (call .entry))) (r .answer) (r .session) (take (r .room) (r .slice)) ⌝ }
+    ensures { λ r. ⌜ Leads (r .room) (r .slice) ⌝ }
 {
     let inputs = pass::numbers(call);
     let count = pass::input_count(call);
     let mut slice = [MARK; 65];
     let room = pass::slice_length(call);
-    stepped(s, &inputs[..count], &mut slice[..room])
+    let t = step(s, &inputs[..count], &mut slice[..room]);
+    let answer = t.answer;
+    let session = t.session;
+    Made {
+        answer,
+        session,
+        slice,
+        room,
+    }
+}
+
+// The session after a call of a pass, whose answer and slice are printed.
+fn called(s: Session, call: &[u8]) -> Session
+    ensures { λ r. ⌜ r ≡ after s (callOf (now (call .entry))) ⌝ }
+{
+    let t = make_call(s, call);
+    let answer = t.answer;
+    let slice = t.slice;
+    let room = t.room;
+    say_answer(answer, &slice[..room]);
+    t.session
 }
 
 // The session after all calls of a pass, each made in turn on the session that the one before left.

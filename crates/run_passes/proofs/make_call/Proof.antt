@@ -1,0 +1,59 @@
+-- `run_passes::make_call` meets its contract. The two counts are at most 65, which is what the arrays hold.
+-- Assumes nothing.
+use mathlib.Core.Path.{sym}
+use lib.Seq.{length-take-le}
+use Rattle.run_passes.proofs.Calls.{count-most, inputs-length, inputs-counted, sevens-taken, made-of}
+use borrow.Author.Needs.{needs}
+use Rattle.run_passes.proofs.make_call.Statement.{statement}
+use Rattle.run_passes.proofs.make_call.Tie as tie
+
+numbers-requires : tie.Need-numbers-requires
+numbers-requires c κs = search needs
+
+input-count-requires : tie.Need-input-count-requires
+input-count-requires c κs = search needs
+
+slice-length-requires : tie.Need-slice-length-requires
+slice-length-requires c κs = search needs
+
+array-share-prefix-inputs : tie.Need-array-share-prefix-inputs
+array-share-prefix-inputs c =
+    rw (c .before .before .numbers .ensures, inputs-length, c .before .input-count .ensures) (count-most _ 0)
+
+slice-aggregate-step : tie.Need-slice-aggregate-step
+slice-aggregate-step c = sym (length-take-le _ _ (array-share-prefix-inputs (c .before)))
+
+array-borrow-prefix-slice : tie.Need-array-borrow-prefix-slice
+array-borrow-prefix-slice c = rw (c .before .slice-length .ensures) (count-most _ 2)
+
+slice-aggregate-step-2 : tie.Need-slice-aggregate-step-2
+slice-aggregate-step-2 c = sym (length-take-le _ _ (array-borrow-prefix-slice (c .before)))
+
+step-requires : tie.Need-step-requires
+step-requires c κs = search needs
+
+returns : tie.Need-returns
+returns c =
+    let slice = c .before .before .before in
+    let room = slice .before .before in
+    made-of _
+    (inputs-counted _ _ _ (room .before .before .numbers .ensures) (room .before .input-count .ensures))
+    (room .slice-length .ensures)
+    (sevens-taken _ 65 (array-borrow-prefix-slice (slice .before)))
+    (c .before .before .step .kept .1 .1 .0)
+    (c .before .before .step .ensures)
+    _
+
+pub make-call-spec : {M : Type 1} → statement M
+make-call-spec =
+    tie.close
+    (tie.spec
+    numbers-requires
+    input-count-requires
+    slice-length-requires
+    array-share-prefix-inputs
+    slice-aggregate-step
+    array-borrow-prefix-slice
+    slice-aggregate-step-2
+    step-requires
+    returns)
