@@ -52,13 +52,13 @@ loop-again c =
     let at = c .before .before .before .before .before .loop in (
       c .first-size2 .ensures,
       rw (c .first-size2 .ensures) (size-within _),
-      one-made (at .s) (now (at .left)) (at .size) (at .inv .0) _ (c .before .before .before .before .loop-test .taken) (c .before .before .called .ensures) ∙ at .inv .2,
+      one-made (at .s) (now (at .left)) (at .size) (at .inv .0) _ (omega (arith, c .before .before .before .before .loop-test .taken)) (c .before .before .called .ensures) ∙ at .inv .2,
     )
 
 returns : tie.Need-returns Inv-loop μ-loop
 returns c =
     let at = c .before .loop in
-    all-made (at .s) (now (at .left)) (at .size) (at .inv .0) (c .loop-test .left) ∙ at .inv .2
+    all-made (at .s) (now (at .left)) (at .size) (at .inv .0) (omega (arith, c .loop-test .left)) ∙ at .inv .2
 
 pub run-spec : {M : Type 1} → statement M
 run-spec =
