@@ -8,6 +8,10 @@ ghost use Rattle.report.specs.Line.{lineOf, overwritten, Leading};
 mod lines;
 mod text;
 
+pub use lines::put_refusal;
+pub use text::put;
+pub use text::put_field;
+
 // The verdict's line, ended by 0x0A, as the leading bytes of the buffer; how long it is is handed back. The longest has 88.
 pub fn write_line(verdict: CertificateVerdict, out: &mut [u8; 96]) -> usize
     ensures { λ r. ⌜ (r ≡ length (lineOf (certificateAnswer verdict)))

@@ -25,9 +25,17 @@ pub fn put_refused(out: &mut [u8], number: usize, place: Place) -> usize
     ensures { λ r. ⌜ (Written (now (out .entry)) 0 (refusedText number place ++ newline) (now (out .exit)) r)
         × (r ≤ 96) ⌝ }
 {
+    let past = put_refusal(out, number, place);
+    put(out, past, b"\n")
+}
+
+// A refusal's number and place, with no end of line.
+pub fn put_refusal(out: &mut [u8], number: usize, place: Place) -> usize
+    requires { ⌜ 60 ≤ length (now out) ⌝ }
+    ensures { λ r. ⌜ (Written (now (out .entry)) 0 (refusedText number place) (now (out .exit)) r) × (r ≤ 60) ⌝ }
+{
     let past_number = put_field(out, 0, b"refused ", number);
-    let past_place = put_place(out, past_number, place);
-    put(out, past_place, b"\n")
+    put_place(out, past_number, place)
 }
 
 // A place has at most 32 bytes.

@@ -133,7 +133,7 @@ module _ {s next : Session} {answer : InstantVerdict} (call : List ℕ) {inputs 
             moves = rw (is-lent, is-inputs, is-room) at (is .1);
             leaves = take-at left rest room size ∙ rw (is-lent, is-inputs, is-room) at (is .2);
           },
-          (leads, sym (length-take-le room (left ++ rest) leads)),
+          (rw is-room (count-most call 2), leads, sym (length-take-le room (left ++ rest) leads)),
         )
 
 module _ (calls : List ℕ) where

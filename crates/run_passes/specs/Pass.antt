@@ -10,6 +10,8 @@ use lib.ListN.{length, take, drop, replicate}
 use Rattle.fields.specs.Fields.{u16At, i64At}
 use Rattle.answers.specs.Answer.{instantAnswer}
 use Rattle.answers.specs.declared.InstantVerdict.{InstantVerdict}
+use Rattle.report.specs.Line.{overwritten}
+use Rattle.run_passes.specs.Line.{lineFor}
 use Rattle.session.specs.declared.Session.{Session}
 use Rattle.session.specs.Lists.{Call, answerTo, after, sliceAfter}
 
@@ -48,9 +50,15 @@ pub record MadeOf (s : Session) (c : Call) (answer : InstantVerdict) (next : Ses
   pub moves : next ≡ after s c
   pub leaves : slice ≡ sliceAfter s c
 
--- n counts leading values of a list, in both forms, so that the proof that Rattle makes of a caller's `&slice[..n]` finds it
+-- what a call gives and shows: the session after it, and the line of its answer and slice in a buffer
+pub record ShownOf (s : Session) (c : Call) (next : Session) (size : ℕ) (old new : List ℕ) : Type 0 where
+  pub moves : next ≡ after s c
+  pub past : size ≡ length (lineFor (answerTo s c) (sliceAfter s c))
+  pub line : new ≡ overwritten (lineFor (answerTo s c) (sliceAfter s c)) old
+
+-- n counts leading values of a list, at most 65, in both forms, so that the proof that Rattle makes of a caller's `&slice[..n]` finds it
 abbrev pub Leads : ℕ → List ℤ → Type 0
-Leads n l = (n ≤ length l) × (n ≡ length (take n l))
+Leads n l = (n ≤ 65) × (n ≤ length l) × (n ≡ length (take n l))
 
 -- the calls of a pass file in turn, found in at most so many turns
 unfoldable pub callsWithin : (turns : ℕ) → List ℕ → List Call

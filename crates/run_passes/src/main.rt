@@ -1,6 +1,8 @@
 // Runs sessions. Arguments come in twos, a node file and a pass file: a session is begun on the node, from a zeroed record, and makes
 // each call of the pass in turn, also where the beginning was refused. One line for the beginning, after the pass file's name, and
 // one a call: its values or its refusal, and then whether the refusal kept the slice.
+use crate::line::MARK;
+use crate::line::put_line;
 use answers::InstantVerdict;
 use answers::NodeVerdict;
 use files::read_file;
@@ -11,15 +13,14 @@ ghost use mathlib.Core.Path.{_≡_};
 ghost use lib.ListN.{take};
 ghost use Rattle.session.specs.Lists.{after, afterAll};
 ghost use Rattle.session.specs.Records.{begunOf};
-ghost use Rattle.run_passes.specs.Pass.{callOf, callsOf, MadeOf, Leads};
+ghost use Rattle.run_passes.specs.Pass.{callOf, callsOf, MadeOf, ShownOf, Leads};
+ghost use Rattle.report.specs.Line.{Leading};
 ghost use Rattle.run_passes.specs.Zeroed.{zeroed};
 
 mod bytes;
+mod line;
 mod pass;
 mod say;
-
-// What the slice holds before each call.
-const MARK: i64 = 7;
 
 // The session after a beginning from a zeroed record.
 fn begun_on(file: &[u8]) -> Session
@@ -43,36 +44,6 @@ fn begun_on(file: &[u8]) -> Session
     }
     say::text(b"\n");
     t.session
-}
-
-fn is_kept(slice: &[i64]) -> bool {
-    let mut i = 0;
-    while i < slice.len() {
-        if slice[i] != MARK {
-            return false;
-        }
-        i += 1;
-    }
-    true
-}
-
-fn say_kept(slice: &[i64]) {
-    if is_kept(slice) {
-        say::text(b" kept");
-    } else {
-        say::text(b" CHANGED");
-    }
-}
-
-fn say_answer(answer: InstantVerdict, slice: &[i64]) {
-    match answer {
-        InstantVerdict::Answered => say::answered(slice),
-        InstantVerdict::Refused(number, place) => {
-            say::refused(number, place);
-            say_kept(slice);
-        }
-    }
-    say::text(b"\n");
 }
 
 // A call of a pass, made: its answer, the session after it, and the slice, of which the call was lent the first `room` values.
@@ -102,15 +73,34 @@ fn make_call(s: Session, call: &[u8]) -> Made
     }
 }
 
-// The session after a call of a pass, whose answer and slice are printed.
-fn called(s: Session, call: &[u8]) -> Session
-    ensures { λ r. ⌜ r ≡ after s (callOf (now (call .entry))) ⌝ }
+// The session after a call of a pass, and how long the call's line is.
+struct Shown {
+    session: Session,
+    length: usize,
+}
+
+// A call of a pass is made, and its line written.
+fn show_call(s: Session, call: &[u8], out: &mut [u8; 1440]) -> Shown
+    ensures { λ r. ⌜ ShownOf s (callOf (now (call .entry))) (r .session) (r .length) (now (out .entry)) (now (out .exit)) ⌝ }
+    ensures { λ r. ⌜ Leading (r .length) (now (out .exit)) ⌝ }
 {
     let t = make_call(s, call);
     let answer = t.answer;
     let slice = t.slice;
     let room = t.room;
-    say_answer(answer, &slice[..room]);
+    let length = put_line(out, answer, &slice[..room]);
+    let session = t.session;
+    Shown { session, length }
+}
+
+// The session after a call of a pass, whose line is printed.
+fn called(s: Session, call: &[u8]) -> Session
+    ensures { λ r. ⌜ r ≡ after s (callOf (now (call .entry))) ⌝ }
+{
+    let mut line = [0u8; 1440];
+    let t = show_call(s, call, &mut line);
+    let length = t.length;
+    say::text(&line[..length]);
     t.session
 }
 

@@ -1,7 +1,6 @@
 // The words of a line, on standard output.
 use answers::CertificateVerdict;
 use answers::Place;
-use integers::magnitude;
 use libc::STDOUT_FILENO;
 
 pub fn text(bytes: &[u8]) {
@@ -19,24 +18,5 @@ pub fn refused(number: usize, place: Place) {
     let length = report::write_line(CertificateVerdict::Refused(number, place), &mut line);
     if 0 < length {
         text(&line[..length - 1]);
-    }
-}
-
-// A signed number, after a space.
-fn signed(x: i64) {
-    if x < 0 {
-        text(b" -");
-    } else {
-        text(b" ");
-    }
-    io::print_decimal(STDOUT_FILENO, magnitude(x));
-}
-
-pub fn answered(values: &[i64]) {
-    text(b"answered");
-    let mut i = 0;
-    while i < values.len() {
-        signed(values[i]);
-        i += 1;
     }
 }

@@ -1,0 +1,45 @@
+-- `run_passes::line::put_line` meets its contract.
+-- Assumes nothing.
+use borrow.Author.Needs.{needs}
+use Rattle.run_passes.specs.Line.{lineFor}
+use Rattle.run_passes.proofs.line.put_line.Statement.{statement}
+use Rattle.run_passes.proofs.line.put_line.Tie as tie
+
+enum-told : tie.Need-enum-told
+enum-told c = search needs
+
+put-answered-requires : tie.Need-put-answered-requires
+put-answered-requires c κs = search needs
+
+enum-known-answer : tie.Need-enum-known-answer
+enum-known-answer c = search needs
+
+put-not-answered-requires : tie.Need-put-not-answered-requires
+put-not-answered-requires c κs = search needs
+
+same-length : tie.Need-same-length
+same-length c = search needs
+
+returns : tie.Need-returns
+unfolding lineFor
+returns c = rw (c .before .before .before .before .enum-told .given .1) (c .before .before .put-answered .ensures)
+
+same-length-2 : tie.Need-same-length-2
+same-length-2 c = search needs
+
+returns-2 : tie.Need-returns-2
+unfolding lineFor
+returns-2 c = rw (c .before .before .before .before .before .answer .given .1) (c .before .before .put-not-answered .ensures)
+
+pub put-line-spec : {M : Type 1} → statement M
+put-line-spec =
+    tie.close
+    (tie.spec
+    enum-told
+    put-answered-requires
+    enum-known-answer
+    put-not-answered-requires
+    same-length
+    returns
+    same-length-2
+    returns-2)
