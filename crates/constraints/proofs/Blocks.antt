@@ -5,6 +5,10 @@ use Prim.Native.Nat.{ℕ, _≤_, _<_}
 use native.Mathlib.Nat.{min-eq-left, min-le-left, min-le-right, le-min}
 use Rattle.constraints.specs.Layout.{Constraint, Line, usedIn, listedIn}
 
+pub listed-few : (line : Line) → listedIn line ≤ 12
+unfolding listedIn
+listed-few line = min-le-right (line .head .count) 12
+
 pub listed-is : (line : Line) → line .head .count ≤ 12 → listedIn line ≡ line .head .count
 unfolding listedIn
 listed-is line l = min-eq-left l
