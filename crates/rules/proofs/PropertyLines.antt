@@ -35,10 +35,11 @@ module _ (constraints : ℕ → Constraint) (w : Valuation) (k prop : ℕ) (deep
   base-property-satisfied line e q l f =
       let all = both-true (eqb (line .head .q) 0 && eqb (line .head .count) _) (every (notPropertyAt prop (line .literal)) _) e in
       let first = both-true (eqb (line .head .q) 0) (eqb (line .head .count) _) (all .0) in
-      let literal = eqb-true (line .literal q) (negative (variable q prop)) (every-all (notPropertyAt prop (line .literal)) _ (all .1) q (omega arith)) in
+      let listed = is-listed line q (omega (arith, eqb-true (line .head .count) _ (first .1))) (omega arith) in
+      let literal = eqb-true (line .literal q) (negative (variable q prop)) (every-all (notPropertyAt prop (line .literal)) _ (all .1) q listed) in
       record {
         which = q;
-        listed = is-listed line q (omega (arith, eqb-true (line .head .count) _ (first .1))) (omega arith);
+        listed = listed;
         holds = ap (literalTrue constraints w) literal ∙ not-property q (omega arith) f;
       }
 

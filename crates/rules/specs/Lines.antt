@@ -6,7 +6,7 @@ use Rattle.answers.specs.Checks.{every}
 use Rattle.node.specs.declared.equation.Kind.{Kind}
 use Rattle.node.specs.declared.equation.Equation.{Equation}
 use Rattle.constraints.specs.declared.layout.LineHead.{LineHead}
-use Rattle.constraints.specs.Layout.{Constraint, Line}
+use Rattle.constraints.specs.Layout.{Constraint, Line, listedIn}
 use Rattle.constraints.specs.Linear.{variable}
 use Rattle.constraints.specs.Rules.{Sorts}
 use Rattle.rules.specs.declared.pattern.Clause.{Clause}
@@ -66,7 +66,7 @@ unfoldable pub basePropertyOk : (k prop : ℕ) → Line → Bool
 basePropertyOk k prop line =
     eqb (line .head .q) 0
     && eqb (line .head .count) k
-    && every (notPropertyAt prop (line .literal)) k
+    && every (notPropertyAt prop (line .literal)) (listedIn line)
 
 -- "Step: prop at q where q is below k; not-prop where q = k."
 unfoldable pub stepPropertyOk : (k prop : ℕ) → Line → Bool

@@ -1,7 +1,16 @@
 -- `certificate::base_property_ok` meets its contract: the tests in a row, of the fields that were read.
 -- Assumes nothing.
-use Rattle.rules.specs.Lines.{basePropertyOk}
+use mathlib.Core.Path.{_≡_, refl, sym, _∙_, ap}
+use mathlib.Core.Bool.{Bool, true, false, _&&_}
+use Prim.Native.Nat.{ℕ, _≤_}
+use native.Mathlib.Omega.{arith}
 use borrow.Author.Needs.{needs}
+use borrow.Author.Tests.{eqb-true}
+use lib.Dec.{eqb}
+use Rattle.answers.specs.Checks.{every}
+use Rattle.constraints.specs.Layout.{Line, lineAt, listedIn}
+use Rattle.constraints.proofs.Blocks.{listed-is}
+use Rattle.rules.specs.Lines.{notPropertyAt, basePropertyOk}
 use Rattle.certificate.proofs.property.base_property_ok.Statement.{statement}
 use Rattle.certificate.proofs.property.base_property_ok.Tie as tie
 
@@ -11,9 +20,25 @@ line-head-requires c κs = search needs
 are-not-property-requires : tie.Need-are-not-property-requires
 are-not-property-requires c κs = search needs
 
+-- a line of k literals lists k
+k-listed : (line : Line) (k : ℕ) → k ≤ 8 → (z : Bool) (ok : ℕ → Bool) → (z && eqb (line .head .count) k && every ok k) ≡ (z && eqb (line .head .count) k && every ok (listedIn line))
+k-listed line k deep false ok = refl
+k-listed line k deep true ok = go (eqb (line .head .count) k) refl
+  where
+    go : (b : Bool) → eqb (line .head .count) k ≡ b → (b && every ok k) ≡ (b && every ok (listedIn line))
+    go false e = refl
+    go true e =
+        let same = eqb-true (line .head .count) k e in
+        ap (every ok) (sym (listed-is line (omega (arith, same)) ∙ same))
+
 returns : tie.Need-returns
 unfolding basePropertyOk
-returns c = rw (c .are-not-property .ensures, c .before .before .before .line-head .ensures)
+returns c =
+    let s = c .before .before .before .before .before in
+    let a = s .args in
+    let line = lineAt (a .file .now) (a .at) in
+    rw (c .are-not-property .ensures, c .before .before .before .line-head .ensures)
+    (k-listed line (a .k) (s .pre .1) (eqb (line .head .q) 0) (notPropertyAt (a .prop) (line .literal)))
 
 pub base-property-ok-spec : {M : Type 1} → statement M
 base-property-ok-spec = tie.close (tie.spec line-head-requires are-not-property-requires returns)
