@@ -2,7 +2,7 @@
 use mathlib.Core.Path.{_≡_, refl}
 use mathlib.Core.Logic.{_↔_}
 use Prim.Native.Nat.{ℕ, zero, suc, _+_, _*_, _^_, _≤_, _<_}
-use native.Mathlib.Nat.{le-refl, mul-le-mul}
+use native.Mathlib.Nat.{mul-le-mul}
 use native.Mathlib.Omega.{arith}
 use lib.IntN.{ℤ, pos, negsuc, negℤ, natAbs, _+ℤ_, _-ℤ_, _*ℤ_}
 use lib.Signed.{_≤ℤ_}
@@ -29,9 +29,6 @@ bound-add m n = by-diff2 _ (λ p q r s. simp zify (omega arith))
 
 pub bound-sub : (m n : ℕ) (a b : ℤ) → natAbs a ≤ m → natAbs b ≤ n → natAbs (a -ℤ b) ≤ m + n
 bound-sub m n = by-diff2 _ (λ p q r s. simp zify (omega arith))
-
-pub abs-+ℤ : (a b : ℤ) → natAbs (a +ℤ b) ≤ natAbs a + natAbs b
-abs-+ℤ a b = bound-add (natAbs a) (natAbs b) a b (le-refl (natAbs a)) (le-refl (natAbs b))
 
 -- ---- of a product
 

@@ -2,12 +2,12 @@
 -- orders and tests of integers by these halves. The halves of a sum, difference or product are listed with their arguments.
 use mathlib.Core.Path.{_≡_, refl, sym, ap, ap₂, _∙_, subst₂}
 use mathlib.Core.Bool.{true, false}
-use Prim.Native.Nat.{ℕ, suc, _+_, _*_, _≤_, _<_}
+use Prim.Native.Nat.{ℕ, suc, _+_, _≤_, _<_}
 use native.Mathlib.Omega.{arith}
 use lib.Dec.{T}
-use lib.IntN.{ℤ, pos, negsuc, negℤ, natAbs, _+ℤ_, _-ℤ_, _*ℤ_}
+use lib.IntN.{ℤ, pos, negsuc, negℤ, natAbs, _+ℤ_, _-ℤ_}
 use lib.Signed.{leZ, ltZ, nonNeg, _≤ℤ_, _<ℤ_}
-use Rattle.integers.proofs.Diff.{_⊖_, pos-diff, negsuc-diff, diff-≤, diff-<, diff-≡, diff-add, diff-neg, diff-mul}
+use Rattle.integers.proofs.Diff.{_⊖_, pos-diff, negsuc-diff, diff-≤, diff-<, diff-≡, diff-add, diff-neg}
 use Rattle.integers.proofs.Order.{leZ-true, leZ-false, ltZ-true, ltZ-false}
 
 -- how far z lies above 0, and how far below
@@ -78,9 +78,6 @@ negℤ-halves a = is _ _ _ (ap negℤ (halves a) ∙ diff-neg _ _)
 
 pub -ℤ-halves : (a b : ℤ) → Is (a -ℤ b) (up a + dn b) (dn a + up b)
 -ℤ-halves a b = omega (arith, +ℤ-halves a (negℤ b), negℤ-halves b)
-
-pub *ℤ-halves : (a b : ℤ) → Is (a *ℤ b) (up a * up b + dn a * dn b) (up a * dn b + dn a * up b)
-*ℤ-halves a b = is _ _ _ (ap₂ _*ℤ_ (halves a) (halves b) ∙ diff-mul _ _ _ _)
 
 pub abs-halves : (z : ℤ) → natAbs z ≡ up z + dn z
 abs-halves (pos n) = omega arith

@@ -2,11 +2,11 @@
 -- that a result which fits is the checked one, and that a number beyond either limit is outside.
 use mathlib.Core.Path.{_≡_, refl, sym, ap, _∙_, subst}
 use mathlib.Core.Logic.{_↔_}
-use mathlib.Core.Bool.{Bool, true, false, _&&_, cond, false≢true}
+use mathlib.Core.Bool.{Bool, true, false, _&&_, false≢true}
 use Prim.Native.Nat.{ℕ}
 use native.Mathlib.Omega.{arith}
 use lib.IntN.{ℤ}
-use lib.Signed.{_≤ℤ_, _<ℤ_}
+use lib.Signed.{_<ℤ_}
 use mir.Syntax.{w64}
 use mir.Val.{SFits}
 use mir.Facts.{toZ-ofZ}
@@ -30,9 +30,6 @@ inside-not z = (λ e f. false≢true (sym e ∙ inside-fits z .1 f), λ n. not-t
     not-true : (t : Bool) → ¬ (t ≡ true) → t ≡ false
     not-true true n = absurd (n refl)
     not-true false n = refl
-
-pub limits-fits : (z : ℤ) → ((least ≤ℤ z) × (z ≤ℤ greatest)) ↔ SFits w64 z
-limits-fits = by-diff _ (λ p q. simp zify (omega arith))
 
 -- ---- from the number to the result
 
@@ -58,14 +55,6 @@ below z h = outside z (no-fit z h)
 
 -- ---- from the result to the number
 
-pub value-is : (z : ℤ) {v : ℤ} → checkedOf z ≡ Value v → (v ≡ z) × SFits w64 z
-unfolding checkedOf
-value-is z {v} = go (inside z) (inside-fits z .0)
-  where
-    go : (t : Bool) → (t ≡ true → SFits w64 z) → cond t (Value z) Outside ≡ Value v → (v ≡ z) × SFits w64 z
-    go true f e = (cc, f refl)
-    go false f e = let n : _≡_ {A = ℕ} 0 1 = cc in absurd (omega arith)
-
 pub outside-not : (z : ℤ) → checkedOf z ≡ Outside → ¬ (SFits w64 z)
 outside-not z e f = let n : _≡_ {A = ℕ} 0 1 = cc (within z f) in omega arith
 
@@ -90,9 +79,3 @@ module _ (op : ℤ → ℤ → ℤ) {a b : ℤ} (f : SFits w64 a) (g : SFits w64
   -- for a caller: what a checked operation that was called with a and b says
   pub called : {r : Checked} → r ≡ checkedOf (op (rd w64 a) (rd w64 b)) → r ≡ checkedOf (op a b)
   called e = e ∙ ap checkedOf read
-
-  pub called-value : {r : Checked} {v : ℤ} → r ≡ checkedOf (op (rd w64 a) (rd w64 b)) → r ≡ Value v → (v ≡ op a b) × SFits w64 (op a b)
-  called-value e d = value-is (op a b) (sym (called e) ∙ d)
-
-  pub called-outside : {r : Checked} → r ≡ checkedOf (op (rd w64 a) (rd w64 b)) → r ≡ Outside → ¬ (SFits w64 (op a b))
-  called-outside e d = outside-not (op a b) (sym (called e) ∙ d)

@@ -13,8 +13,6 @@ use Rattle.integers.proofs.Small.{read-fits}
 use Rattle.integers.proofs.Within.{within, outside, result-inside}
 use Rattle.integers.proofs.sign.signed.Statement.{statement}
 use Rattle.integers.proofs.sign.signed.Tie as tie
-use Rattle.integers.proofs.sign.signed.Reads as reads
-use Rattle.integers.proofs.sign.signed.Lts as lts
 
 cast-t7 : tie.Need-cast-t7
 cast-t7 c = search needs
