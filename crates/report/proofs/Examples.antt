@@ -1,8 +1,7 @@
 -- The two lines that the paper gives, computed: `accepted depth 1 base 12 step 12` and `refused 19 line 4`.
 -- Assumes nothing.
 use mathlib.Core.Path.{_≡_, refl}
-use Prim.Native.Nat.{ℕ}
-use mathlib.Core.List.{List, [], _∷_}
+use mathlib.Core.List.{[], _∷_}
 use Rattle.answers.specs.declared.Place.the-variants.{Line}
 use Rattle.answers.specs.Answer.{accepted, refused}
 use Rattle.report.specs.Decimal.{digitsWithin, decimal}

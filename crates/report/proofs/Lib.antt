@@ -1,3 +1,4 @@
 pub mod Digits
 pub mod Examples
 pub mod Texts
+pub mod Values

@@ -5,7 +5,7 @@ use mathlib.Core.List.{List, [], _∷_, _++_}
 use native.Mathlib.Omega.{arith}
 use native.Mathlib.Nat.{zero-add}
 use native.Mathlib.Numerals.{add-one}
-use lib.ListN.{length, take, drop, getD, set, length-append}
+use lib.ListN.{length, take, getD, set, length-append}
 use lib.Seq.{sets, sets-eq, length-sets, length-take-le, take-suc}
 use Rattle.report.specs.Line.{overwritten, Leading}
 use Rattle.report.specs.Written.{Written}
@@ -30,14 +30,16 @@ then {old} {mid} {new} {a} {b} {at} w v =
       bytes = v .bytes ∙ rw (w .bytes, w .past) (sym (sets-append old at a b));
     }
 
--- a text from the start on
-module _ {old text new : List ℕ} {r : ℕ} (w : Written old 0 text new r) (h : r ≤ length old) where
-  pub from-start : (r ≡ length text) × (new ≡ overwritten text old)
-  from-start =
-      let past = simp zero-add at (w .past) in
-      (past, w .bytes ∙ sets-eq text old 0 (simp zero-add (rw past at h)) ∙ simp zero-add)
+-- no text leaves a buffer as it is
+pub nothing : (old : List ℕ) (at : ℕ) → Written old at [] old at
+nothing old at = record { past = omega arith; bytes = refl }
 
-  pub leading : Leading r new
-  leading =
-      let fits : r ≤ length new = rw (w .bytes, length-sets old 0 text) h in
-      (fits, sym (length-take-le r new fits))
+-- a text from the start on is the leading bytes
+pub from-start : {old text new : List ℕ} {r : ℕ} → Written old 0 text new r → r ≤ length old
+    → ((r ≡ length text) × (new ≡ overwritten text old)) × Leading r new
+from-start {old} {text} {new} {r} w h =
+    let past = simp zero-add at (w .past) in
+    let fits : r ≤ length new = rw (w .bytes, length-sets old 0 text) h in (
+      (past, w .bytes ∙ sets-eq text old 0 (simp zero-add (rw past at h)) ∙ simp zero-add),
+      (fits, sym (length-take-le r new fits)),
+    )

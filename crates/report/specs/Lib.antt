@@ -1,3 +1,4 @@
+pub mod Call
 pub mod Decimal
 pub mod Line
 pub mod Words

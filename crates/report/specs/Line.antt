@@ -38,7 +38,7 @@ lineOf (refused number place) = refusedText number place ++ newline
 abbrev pub overwritten : (text old : List ℕ) → List ℕ
 overwritten text old = text ++ drop (length text) old
 
--- n counts leading bytes of a buffer. Of `write_line` that follows from the equations of its contract; it is stated, in both
--- forms, so that the proof that Rattle makes of a caller's `&out[..n]` finds it.
+-- n counts leading bytes of a buffer. Of `write_line` and `write_call` that follows from the equations of their contracts; it is
+-- stated, in both forms, so that the proof that Rattle makes of a caller's `&out[..n]` finds it.
 abbrev pub Leading : ℕ → List ℕ → Type 0
 Leading n buffer = (n ≤ length buffer) × (n ≡ length (take n buffer))

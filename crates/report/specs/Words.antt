@@ -42,6 +42,18 @@ atBase = 32 ∷ 98 ∷ 97 ∷ 115 ∷ 101 ∷ []
 abbrev pub atStep : List ℕ
 atStep = 32 ∷ 115 ∷ 116 ∷ 101 ∷ 112 ∷ []
 
+-- `answered`
+abbrev pub answeredWord : List ℕ
+answeredWord = 97 ∷ 110 ∷ 115 ∷ 119 ∷ 101 ∷ 114 ∷ 101 ∷ 100 ∷ []
+
+-- ` kept` and the end of the line
+abbrev pub keptEnd : List ℕ
+keptEnd = 32 ∷ 107 ∷ 101 ∷ 112 ∷ 116 ∷ 10 ∷ []
+
+-- ` CHANGED` and the end of the line
+abbrev pub changedEnd : List ℕ
+changedEnd = 32 ∷ 67 ∷ 72 ∷ 65 ∷ 78 ∷ 71 ∷ 69 ∷ 68 ∷ 10 ∷ []
+
 -- what ends a line, 0x0A
 abbrev pub newline : List ℕ
 newline = 10 ∷ []

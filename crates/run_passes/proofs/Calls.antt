@@ -1,7 +1,7 @@
 -- A call's size, counts and inputs, case by case, and what bounds them.
 -- Assumes nothing.
 use mathlib.Core.Path.{_≡_, refl, sym, _∙_, ap}
-use mathlib.Core.Bool.{Bool, true, false, cond}
+use mathlib.Core.Bool.{Bool, true, false}
 use mathlib.Core.List.{List, [], _∷_, _++_}
 use Prim.Native.Nat.{ℕ, zero, suc, _+_, _-_, _*_, _<_, _≤_}
 use native.Mathlib.Nat.{le-of-suc-le-suc, not-suc-le-zero}
@@ -9,16 +9,17 @@ use native.Mathlib.Omega.{arith}
 use borrow.Author.Tests.{lt-ltb, le-ltb, ltb-true, ltb-false}
 use lib.Dec.{ltb}
 use lib.IntN.{ℤ, pos}
-use lib.ListN.{length, getD, take, drop, replicate, length-drop, length-append, length-replicate}
-use lib.Seq.{ext-getD, take-length, take-at, length-take-le}
+use lib.ListN.{length, getD, take, drop, replicate, length-drop, length-replicate}
+use lib.Seq.{ext-getD, take-length, take-at}
 use Rattle.answers.proofs.FromTheFront.{below}
 use Rattle.fields.specs.Fields.{u16At, i64At}
-use Rattle.answers.specs.Answer.{instantAnswer}
-use Rattle.answers.specs.declared.InstantVerdict.{InstantVerdict}
+use Rattle.answers.specs.Answer.{Answer}
+use Rattle.report.specs.Call.{callLine}
+use Rattle.report.specs.Line.{overwritten}
 use Rattle.session.specs.Instants.{answerOf, sessionOf, sliceOf}
 use Rattle.session.specs.Lists.{Call, after, afterAll}
 use Rattle.session.specs.declared.Session.{Session}
-use Rattle.run_passes.specs.Pass.{sizeOf, firstSize, countAt, inputAt, inputsFrom, callOf, callsWithin, callsOf, MadeOf, Leads}
+use Rattle.run_passes.specs.Pass.{sizeOf, firstSize, countAt, inputAt, inputsFrom, callOf, callsWithin, callsOf, ShownOf}
 
 module _ (calls : List ℕ) where
   pub size-none : length calls < 4 → 0 ≡ firstSize calls
@@ -118,23 +119,22 @@ sevens-taken zero m h = refl
 sevens-taken (suc n) zero h = absurd (not-suc-le-zero h)
 sevens-taken (suc n) (suc m) h = ap (λ (l : List ℤ). pos 7 ∷ l) (sevens-taken n m (le-of-suc-le-suc h))
 
--- what a step on a call's inputs and on its part of a slice gives is what the call gives
-module _ {s next : Session} {answer : InstantVerdict} (call : List ℕ) {inputs lent left : List ℤ} {room : ℕ}
+-- what a step on a call's inputs and on its part of a slice gives, and the line of that, are what the call gives and shows
+module _ {s next : Session} {answer : Answer (Unit {0})} (call : List ℕ) {inputs lent left : List ℤ} (rest : List ℤ) {room size : ℕ} {old new : List ℕ}
     (is-inputs : inputs ≡ inputsFrom call 0 (countAt call 0)) (is-room : room ≡ countAt call 2) (is-lent : lent ≡ replicate room (pos 7))
     (same : length left ≡ length lent)
-    (is : (instantAnswer answer ≡ answerOf s inputs (length lent)) × (next ≡ sessionOf s inputs (length lent)) × (left ≡ sliceOf s inputs lent))
+    (is : (answer ≡ answerOf s inputs (length lent)) × (next ≡ sessionOf s inputs (length lent)) × (left ≡ sliceOf s inputs lent))
+    (said : (size ≡ length (callLine answer (take room (left ++ rest)))) × (new ≡ overwritten (callLine answer (take room (left ++ rest))) old))
   where
-    pub made-of : (rest : List ℤ) → MadeOf s (callOf call) answer next (take room (left ++ rest)) × Leads room (left ++ rest)
-    made-of rest =
-        let size : length left ≡ room = same ∙ ap length is-lent ∙ length-replicate room (pos 7) in
-        let leads : room ≤ length (left ++ rest) = omega (arith, length-append left rest) in (
-          record {
-            answers = rw (is-lent, is-inputs, is-room) at (is .0);
-            moves = rw (is-lent, is-inputs, is-room) at (is .1);
-            leaves = take-at left rest room size ∙ rw (is-lent, is-inputs, is-room) at (is .2);
-          },
-          (rw is-room (count-most call 2), leads, sym (length-take-le room (left ++ rest) leads)),
-        )
+    pub shown-of : ShownOf s (callOf call) next size old new
+    shown-of =
+        let all : length left ≡ room = same ∙ ap length is-lent ∙ length-replicate room (pos 7) in
+        let of-call = rw (take-at left rest room all, is .0, is .2, is-lent, is-inputs, is-room) at said in
+        record {
+          moves = rw (is-lent, is-inputs, is-room) at (is .1);
+          past = of-call .0;
+          line = of-call .1;
+        }
 
 module _ (calls : List ℕ) where
   none-within : (turns : ℕ) → firstSize calls ≤ 0 → callsWithin turns calls ≡ []

@@ -1,17 +1,15 @@
 -- A pass file, this repository's own format: a list of calls, each a u16 count of inputs, a u16 length of the slice and the inputs,
 -- signed and of 64 bits; all little-endian.
 use mathlib.Core.Path.{_≡_}
-use Prim.Native.Nat.{ℕ, zero, suc, _+_, _*_, _≤_}
+use Prim.Native.Nat.{ℕ, zero, suc, _+_, _*_}
 use mathlib.Core.Bool.{cond}
 use mathlib.Core.List.{List, [], _∷_}
 use lib.Dec.{ltb}
 use lib.IntN.{ℤ, pos}
 use lib.ListN.{length, take, drop, replicate}
 use Rattle.fields.specs.Fields.{u16At, i64At}
-use Rattle.answers.specs.Answer.{instantAnswer}
-use Rattle.answers.specs.declared.InstantVerdict.{InstantVerdict}
+use Rattle.report.specs.Call.{callLine}
 use Rattle.report.specs.Line.{overwritten}
-use Rattle.run_passes.specs.Line.{lineFor}
 use Rattle.session.specs.declared.Session.{Session}
 use Rattle.session.specs.Lists.{Call, answerTo, after, sliceAfter}
 
@@ -44,21 +42,11 @@ inputsFrom call i (suc n) = inputAt call i ∷ inputsFrom call (suc i) n
 abbrev pub callOf : List ℕ → Call
 callOf call = record { inputs = inputsFrom call 0 (countAt call 0); slice = replicate (countAt call 2) (pos 7) }
 
--- what a call gives: its answer, the session after it, and its slice
-pub record MadeOf (s : Session) (c : Call) (answer : InstantVerdict) (next : Session) (slice : List ℤ) : Type 0 where
-  pub answers : instantAnswer answer ≡ answerTo s c
-  pub moves : next ≡ after s c
-  pub leaves : slice ≡ sliceAfter s c
-
 -- what a call gives and shows: the session after it, and the line of its answer and slice in a buffer
 pub record ShownOf (s : Session) (c : Call) (next : Session) (size : ℕ) (old new : List ℕ) : Type 0 where
   pub moves : next ≡ after s c
-  pub past : size ≡ length (lineFor (answerTo s c) (sliceAfter s c))
-  pub line : new ≡ overwritten (lineFor (answerTo s c) (sliceAfter s c)) old
-
--- n counts leading values of a list, at most 65, in both forms, so that the proof that Rattle makes of a caller's `&slice[..n]` finds it
-abbrev pub Leads : ℕ → List ℤ → Type 0
-Leads n l = (n ≤ 65) × (n ≤ length l) × (n ≡ length (take n l))
+  pub past : size ≡ length (callLine (answerTo s c) (sliceAfter s c))
+  pub line : new ≡ overwritten (callLine (answerTo s c) (sliceAfter s c)) old
 
 -- the calls of a pass file in turn, found in at most so many turns
 unfoldable pub callsWithin : (turns : ℕ) → List ℕ → List Call

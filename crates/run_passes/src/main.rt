@@ -1,24 +1,21 @@
 // Runs sessions. Arguments come in twos, a node file and a pass file: a session is begun on the node, from a zeroed record, and makes
 // each call of the pass in turn, also where the beginning was refused. One line for the beginning, after the pass file's name, and
 // one a call: its values or its refusal, and then whether the refusal kept the slice.
-use crate::line::MARK;
-use crate::line::put_line;
-use answers::InstantVerdict;
 use answers::NodeVerdict;
 use files::read_file;
+use report::MARK;
+use report::write_call;
 use session::Session;
 use session::begun;
 use session::step;
 ghost use mathlib.Core.Path.{_≡_};
-ghost use lib.ListN.{take};
 ghost use Rattle.session.specs.Lists.{after, afterAll};
 ghost use Rattle.session.specs.Records.{begunOf};
-ghost use Rattle.run_passes.specs.Pass.{callOf, callsOf, MadeOf, ShownOf, Leads};
+ghost use Rattle.run_passes.specs.Pass.{callOf, callsOf, ShownOf};
 ghost use Rattle.report.specs.Line.{Leading};
 ghost use Rattle.run_passes.specs.Zeroed.{zeroed};
 
 mod bytes;
-mod line;
 mod pass;
 mod say;
 
@@ -39,38 +36,10 @@ fn begun_on(file: &[u8]) -> Session
         NodeVerdict::Accepted {
             streams,
             property: _,
-        } => say::number(b"begun streams ", streams),
+        } => say::begun(streams),
         NodeVerdict::Refused(number, place) => say::refused(number, place),
     }
-    say::text(b"\n");
     t.session
-}
-
-// A call of a pass, made: its answer, the session after it, and the slice, of which the call was lent the first `room` values.
-struct Made {
-    answer: InstantVerdict,
-    session: Session,
-    slice: [i64; 65],
-    room: usize,
-}
-
-fn make_call(s: Session, call: &[u8]) -> Made
-    ensures { λ r. ⌜ MadeOf s (callOf (now (call .entry))) (r .answer) (r .session) (take (r .room) (r .slice)) ⌝ }
-    ensures { λ r. ⌜ Leads (r .room) (r .slice) ⌝ }
-{
-    let inputs = pass::numbers(call);
-    let count = pass::input_count(call);
-    let mut slice = [MARK; 65];
-    let room = pass::slice_length(call);
-    let t = step(s, &inputs[..count], &mut slice[..room]);
-    let answer = t.answer;
-    let session = t.session;
-    Made {
-        answer,
-        session,
-        slice,
-        room,
-    }
 }
 
 // The session after a call of a pass, and how long the call's line is.
@@ -79,16 +48,18 @@ struct Shown {
     length: usize,
 }
 
-// A call of a pass is made, and its line written.
+// A call of a pass is made on a slice of which it is lent the first `room` values, and its line written.
 fn show_call(s: Session, call: &[u8], out: &mut [u8; 1440]) -> Shown
     ensures { λ r. ⌜ ShownOf s (callOf (now (call .entry))) (r .session) (r .length) (now (out .entry)) (now (out .exit)) ⌝ }
     ensures { λ r. ⌜ Leading (r .length) (now (out .exit)) ⌝ }
 {
-    let t = make_call(s, call);
+    let inputs = pass::numbers(call);
+    let count = pass::input_count(call);
+    let mut slice = [MARK; 65];
+    let room = pass::slice_length(call);
+    let t = step(s, &inputs[..count], &mut slice[..room]);
     let answer = t.answer;
-    let slice = t.slice;
-    let room = t.room;
-    let length = put_line(out, answer, &slice[..room]);
+    let length = write_call(answer, slice, room, out);
     let session = t.session;
     Shown { session, length }
 }

@@ -1,4 +1,4 @@
-// The words of a line, on standard output.
+// Lines on standard output.
 use answers::CertificateVerdict;
 use answers::Place;
 use libc::STDOUT_FILENO;
@@ -7,16 +7,15 @@ pub fn text(bytes: &[u8]) {
     io::write_all(STDOUT_FILENO, bytes);
 }
 
-pub fn number(before: &[u8], n: usize) {
-    text(before);
-    io::print_decimal(STDOUT_FILENO, n as u64);
+pub fn begun(streams: usize) {
+    text(b"begun streams ");
+    io::print_decimal(STDOUT_FILENO, streams as u64);
+    text(b"\n");
 }
 
-// A refusal, as the line of a verdict has it but for its end.
+// A refusal is said as that of a certificate is.
 pub fn refused(number: usize, place: Place) {
     let mut line = [0u8; 96];
     let length = report::write_line(CertificateVerdict::Refused(number, place), &mut line);
-    if 0 < length {
-        text(&line[..length - 1]);
-    }
+    text(&line[..length]);
 }

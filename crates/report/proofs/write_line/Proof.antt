@@ -2,7 +2,7 @@
 use native.Mathlib.Omega.{arith}
 use borrow.Author.Needs.{needs}
 use Rattle.report.specs.Line.{lineOf}
-use Rattle.report.proofs.Texts.{from-start, leading}
+use Rattle.report.proofs.Texts.{from-start}
 use Rattle.report.proofs.write_line.Statement.{statement}
 use Rattle.report.proofs.write_line.Tie as tie
 
@@ -21,14 +21,12 @@ put-refused-requires c κs = search needs
 returns : tie.Need-returns
 unfolding lineOf
 returns c =
-    let w = c .put-accepted .ensures .0 in
-    rw (c .before .before .before .verdict .given .1) (from-start w (omega arith), leading w (omega arith))
+    rw (c .before .before .before .verdict .given .1) (from-start (c .put-accepted .ensures .0) (omega arith))
 
 returns-2 : tie.Need-returns-2
 unfolding lineOf
 returns-2 c =
-    let w = c .put-refused .ensures .0 in
-    rw (c .before .before .before .verdict2 .given .1) (from-start w (omega arith), leading w (omega arith))
+    rw (c .before .before .before .verdict2 .given .1) (from-start (c .put-refused .ensures .0) (omega arith))
 
 pub write-line-spec : {M : Type 1} → statement M
 write-line-spec =

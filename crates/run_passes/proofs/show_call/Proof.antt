@@ -1,36 +1,66 @@
--- `run_passes::show_call` meets its contract: the line is that of what the call gave.
+-- `run_passes::show_call` meets its contract. The two counts are at most 65, which is what the arrays hold.
 -- Assumes nothing.
-use native.Mathlib.Omega.{arith}
+use mathlib.Core.Path.{sym}
+use lib.Seq.{length-take-le}
+use Rattle.run_passes.proofs.Calls.{count-most, inputs-length, inputs-counted, sevens-taken, shown-of}
 use borrow.Author.Needs.{needs}
-use Rattle.report.proofs.Texts.{from-start, leading}
 use Rattle.run_passes.proofs.show_call.Statement.{statement}
 use Rattle.run_passes.proofs.show_call.Tie as tie
 
-make-call-requires : tie.Need-make-call-requires
-make-call-requires c κs = search needs
+numbers-requires : tie.Need-numbers-requires
+numbers-requires c κs = search needs
 
-array-share-prefix-slice : tie.Need-array-share-prefix-slice
-array-share-prefix-slice c = search needs
+input-count-requires : tie.Need-input-count-requires
+input-count-requires c κs = search needs
 
-slice-aggregate-put-line : tie.Need-slice-aggregate-put-line
-slice-aggregate-put-line c = search needs
+slice-length-requires : tie.Need-slice-length-requires
+slice-length-requires c κs = search needs
 
-put-line-requires : tie.Need-put-line-requires
-put-line-requires c κs = search needs
+array-share-prefix-inputs : tie.Need-array-share-prefix-inputs
+array-share-prefix-inputs c =
+    rw (c .before .before .numbers .ensures, inputs-length, c .before .input-count .ensures) (count-most _ 0)
+
+slice-aggregate-step : tie.Need-slice-aggregate-step
+slice-aggregate-step c = sym (length-take-le _ _ (array-share-prefix-inputs (c .before)))
+
+array-borrow-prefix-slice : tie.Need-array-borrow-prefix-slice
+array-borrow-prefix-slice c = rw (c .before .slice-length .ensures) (count-most _ 2)
+
+slice-aggregate-step-2 : tie.Need-slice-aggregate-step-2
+slice-aggregate-step-2 c = sym (length-take-le _ _ (array-borrow-prefix-slice (c .before)))
+
+step-requires : tie.Need-step-requires
+step-requires c κs = search needs
+
+write-call-requires : tie.Need-write-call-requires
+write-call-requires c κs = search needs
 
 returns : tie.Need-returns
 returns c =
-    let made = c .before .before .before .before .before .make-call .ensures .0 in
-    let w = rw (made .answers, made .leaves) at (c .before .put-line .ensures .0) in
-    let start = from-start w (omega arith) in
-    (record { moves = made .moves; past = start .0; line = start .1 }, leading w (omega arith))
+    let line = c .before .write-call .ensures in
+    let step = c .before .before .before .before in
+    let room = step .before .before .before in (
+      shown-of _ _
+          (inputs-counted _ _ _ (room .before .before .numbers .ensures) (room .before .input-count .ensures))
+          (room .slice-length .ensures)
+          (sevens-taken _ 65 (array-borrow-prefix-slice (step .before .before)))
+          (step .step .kept .1 .1 .0)
+          (step .step .ensures)
+          (line .0),
+      line .1,
+    )
 
 pub show-call-spec : {M : Type 1} → statement M
 show-call-spec =
     tie.close
     (tie.spec
-    make-call-requires
-    array-share-prefix-slice
-    slice-aggregate-put-line
-    put-line-requires
+    numbers-requires
+    input-count-requires
+    slice-length-requires
+    array-share-prefix-inputs
+    slice-aggregate-step
+    array-borrow-prefix-slice
+    slice-aggregate-step-2
+    step-requires
+    write-call-requires
     returns)

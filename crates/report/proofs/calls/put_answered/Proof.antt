@@ -1,9 +1,9 @@
--- `run_passes::line::put_answered` meets its contract.
+-- `report::put_answered` meets its contract.
 -- Assumes nothing.
 use borrow.Author.Needs.{needs}
 use Rattle.report.proofs.Texts.{then}
-use Rattle.run_passes.proofs.line.put_answered.Statement.{statement}
-use Rattle.run_passes.proofs.line.put_answered.Tie as tie
+use Rattle.report.proofs.calls.put_answered.Statement.{statement}
+use Rattle.report.proofs.calls.put_answered.Tie as tie
 
 slice-aggregate-put : tie.Need-slice-aggregate-put
 slice-aggregate-put c = search needs

@@ -1,18 +1,19 @@
-// The line of a call, written into a lent buffer. The longest has 1,439 bytes: 65 values of at most 22 bytes, `answered` and the end.
+// The line of a call of a session, from the start of a buffer of at least 1,440 bytes on. None is longer than 1,439: `answered`, 65
+// values of at most 22 bytes, and the end.
+use crate::lines::put_refusal;
+use crate::text::put;
+use crate::text::put_field;
 use answers::InstantVerdict;
 use answers::Place;
 use integers::magnitude;
-use report::put;
-use report::put_field;
-use report::put_refusal;
 ghost use Prim.Native.Nat.{_+_, _*_, _≤_};
 ghost use mathlib.Core.Path.{_≡_};
 ghost use lib.ListN.{length};
 ghost use Rattle.answers.specs.Answer.{instantAnswer};
+ghost use Rattle.report.specs.Call.{signedText, valuesText, isKept, keptText, answeredText, notAnsweredText, callLine};
 ghost use Rattle.report.specs.Written.{Written};
-ghost use Rattle.run_passes.specs.Line.{signedText, valuesText, isKept, keptText, answeredText, notAnsweredText, lineFor};
 
-// What the slice holds before each call.
+// What a slice holds before each call, so that its line can say whether a refusal kept it.
 pub const MARK: i64 = 7;
 
 // A signed number, after a space.
@@ -84,9 +85,9 @@ fn put_not_answered(out: &mut [u8], number: usize, place: Place, slice: &[i64]) 
     put_kept(out, past, slice)
 }
 
-pub fn put_line(out: &mut [u8], answer: InstantVerdict, slice: &[i64]) -> usize
+pub fn put_call(out: &mut [u8], answer: InstantVerdict, slice: &[i64]) -> usize
     requires { ⌜ (1440 ≤ length (now out)) × (length (now slice) ≤ 65) ⌝ }
-    ensures { λ r. ⌜ (Written (now (out .entry)) 0 (lineFor (instantAnswer answer) (now (slice .entry))) (now (out .exit)) r)
+    ensures { λ r. ⌜ (Written (now (out .entry)) 0 (callLine (instantAnswer answer) (now (slice .entry))) (now (out .exit)) r)
         × (r ≤ 1440) ⌝ }
 {
     match answer {

@@ -1,7 +1,7 @@
--- `run_passes::line::put_values` meets its contract. The loop's invariant: the text of the values passed is in the buffer.
+-- `report::put_values` meets its contract. The loop's invariant: the text of the values passed is in the buffer.
 -- Assumes nothing.
-use mathlib.Core.Path.{_≡_, refl, sym, _∙_, ap}
-use Prim.Native.Nat.{ℕ, _+_, _-_, _*_, _≤_}
+use mathlib.Core.Path.{_≡_, refl, sym}
+use Prim.Native.Nat.{_+_, _-_, _*_, _≤_}
 use native.Mathlib.Omega.{arith}
 use borrow.Author.Needs.{needs}
 use denote.Ref.{now}
@@ -9,12 +9,12 @@ use lib.ListN.{length, take}
 use lib.Seq.{take-length}
 use mir.Syntax.{w64}
 use mir.ValLaws.{toZ-ofZ}
-use Rattle.report.proofs.Texts.{then}
+use Rattle.report.proofs.Texts.{then, nothing}
 use Rattle.report.specs.Written.{Written}
-use Rattle.run_passes.specs.Line.{valuesText}
-use Rattle.run_passes.proofs.Lines.{text-more, nothing-written}
-use Rattle.run_passes.proofs.line.put_values.Statement.{statement}
-use Rattle.run_passes.proofs.line.put_values.Tie as tie
+use Rattle.report.specs.Call.{valuesText}
+use Rattle.report.proofs.Values.{text-more}
+use Rattle.report.proofs.calls.put_values.Statement.{statement}
+use Rattle.report.proofs.calls.put_values.Tie as tie
 
 abbrev Inv-loop : tie.InvT-loop
 Inv-loop out₀ at values past₀ i₀ out past i =
@@ -24,7 +24,8 @@ abbrev μ-loop : tie.MeasureT-loop
 μ-loop out₀ at values past₀ i₀ out past i = length values - i
 
 loop-holds : tie.Need-loop-holds Inv-loop μ-loop
-loop-holds c = (search needs, search needs, refl, nothing-written _ _)
+unfolding valuesText
+loop-holds c = (search needs, search needs, refl, nothing _ _)
 
 mul-put-signed : tie.Need-mul-put-signed Inv-loop μ-loop
 mul-put-signed c = search needs

@@ -1,4 +1,4 @@
--- The line that is printed for a call: its values, or its refusal and then whether the slice still holds its sevens.
+-- The line that is printed for a call of a session: its values, or its refusal and then whether the slice still holds its sevens.
 use Prim.Native.Nat.{ℕ}
 use mathlib.Core.Bool.{Bool, true, false, cond}
 use mathlib.Core.List.{List, [], _∷_, _++_}
@@ -7,9 +7,9 @@ use lib.IntN.{ℤ, pos, negsuc, natAbs}
 use lib.Signed.{ltZ}
 use Rattle.answers.specs.Answer.{Answer, accepted, refused}
 use Rattle.answers.specs.declared.Place.{Place}
 use Rattle.report.specs.Decimal.{decimal}
 use Rattle.report.specs.Line.{refusedText}
-use Rattle.report.specs.Words.{newline}
+use Rattle.report.specs.Words.{answeredWord, keptEnd, changedEnd, newline}
 
 -- a space, and the sign of a number below 0
 abbrev pub signText : (negative : Bool) → List ℕ
@@ -31,18 +31,15 @@ unfoldable pub isKept : List ℤ → Bool
 isKept [] = true
 isKept (x ∷ xs) = cond (isSeven x) (isKept xs) false
 
--- ` kept` or ` CHANGED`, and the end of the line
 abbrev pub keptText : (slice : List ℤ) → List ℕ
-keptText slice =
-    cond (isKept slice) (32 ∷ 107 ∷ 101 ∷ 112 ∷ 116 ∷ 10 ∷ []) (32 ∷ 67 ∷ 72 ∷ 65 ∷ 78 ∷ 71 ∷ 69 ∷ 68 ∷ 10 ∷ [])
+keptText slice = cond (isKept slice) keptEnd changedEnd
 
--- `answered`, the values and the end of the line
 abbrev pub answeredText : (values : List ℤ) → List ℕ
-answeredText values = ((97 ∷ 110 ∷ 115 ∷ 119 ∷ 101 ∷ 114 ∷ 101 ∷ 100 ∷ []) ++ valuesText values) ++ newline
+answeredText values = (answeredWord ++ valuesText values) ++ newline
 
 abbrev pub notAnsweredText : (number : ℕ) → Place → (slice : List ℤ) → List ℕ
 notAnsweredText number place slice = refusedText number place ++ keptText slice
 
-unfoldable pub lineFor : Answer (Unit {0}) → (slice : List ℤ) → List ℕ
-lineFor (accepted a) slice = answeredText slice
-lineFor (refused number place) slice = notAnsweredText number place slice
+unfoldable pub callLine : Answer (Unit {0}) → (slice : List ℤ) → List ℕ
+callLine (accepted a) slice = answeredText slice
+callLine (refused number place) slice = notAnsweredText number place slice

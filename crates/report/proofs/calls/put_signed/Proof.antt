@@ -1,4 +1,4 @@
--- `run_passes::line::put_signed` meets its contract: a magnitude has at most 20 digits.
+-- `report::put_signed` meets its contract: a magnitude has at most 20 digits.
 -- Assumes nothing.
 use mathlib.Core.Path.{_≡_, sym, _∙_, ap}
 use mathlib.Core.Bool.{true, false}
@@ -8,8 +8,8 @@ use lib.Signed.{ltZ}
 use mir.Syntax.{w64}
 use mir.ValLaws.{toZ-ofZ}
 use borrow.Author.Needs.{needs}
-use Rattle.run_passes.proofs.line.put_signed.Statement.{statement}
-use Rattle.run_passes.proofs.line.put_signed.Tie as tie
+use Rattle.report.proofs.calls.put_signed.Statement.{statement}
+use Rattle.report.proofs.calls.put_signed.Tie as tie
 
 magnitude-requires : tie.Need-magnitude-requires
 magnitude-requires c κs = search needs

@@ -1,9 +1,9 @@
--- `run_passes::line::put_line` meets its contract.
+-- `report::put_call` meets its contract.
 -- Assumes nothing.
 use borrow.Author.Needs.{needs}
-use Rattle.run_passes.specs.Line.{lineFor}
-use Rattle.run_passes.proofs.line.put_line.Statement.{statement}
-use Rattle.run_passes.proofs.line.put_line.Tie as tie
+use Rattle.report.specs.Call.{callLine}
+use Rattle.report.proofs.calls.put_call.Statement.{statement}
+use Rattle.report.proofs.calls.put_call.Tie as tie
 
 enum-told : tie.Need-enum-told
 enum-told c = search needs
@@ -21,18 +21,18 @@ same-length : tie.Need-same-length
 same-length c = search needs
 
 returns : tie.Need-returns
-unfolding lineFor
+unfolding callLine
 returns c = rw (c .before .before .before .before .enum-told .given .1) (c .before .before .put-answered .ensures)
 
 same-length-2 : tie.Need-same-length-2
 same-length-2 c = search needs
 
 returns-2 : tie.Need-returns-2
-unfolding lineFor
+unfolding callLine
 returns-2 c = rw (c .before .before .before .before .before .answer .given .1) (c .before .before .put-not-answered .ensures)
 
-pub put-line-spec : {M : Type 1} → statement M
-put-line-spec =
+pub put-call-spec : {M : Type 1} → statement M
+put-call-spec =
     tie.close
     (tie.spec
     enum-told

@@ -1,9 +1,9 @@
--- `run_passes::line::put_kept` meets its contract.
+-- `report::put_kept` meets its contract.
 -- Assumes nothing.
 use mathlib.Core.Path.{sym, _∙_}
 use borrow.Author.Needs.{needs}
-use Rattle.run_passes.proofs.line.put_kept.Statement.{statement}
-use Rattle.run_passes.proofs.line.put_kept.Tie as tie
+use Rattle.report.proofs.calls.put_kept.Statement.{statement}
+use Rattle.report.proofs.calls.put_kept.Tie as tie
 
 is-kept-requires : tie.Need-is-kept-requires
 is-kept-requires c κs = search needs

@@ -1,9 +1,9 @@
--- `run_passes::line::put_not_answered` meets its contract.
+-- `report::put_not_answered` meets its contract.
 -- Assumes nothing.
 use borrow.Author.Needs.{needs}
 use Rattle.report.proofs.Texts.{then}
-use Rattle.run_passes.proofs.line.put_not_answered.Statement.{statement}
-use Rattle.run_passes.proofs.line.put_not_answered.Tie as tie
+use Rattle.report.proofs.calls.put_not_answered.Statement.{statement}
+use Rattle.report.proofs.calls.put_not_answered.Tie as tie
 
 put-refusal-requires : tie.Need-put-refusal-requires
 put-refusal-requires c κs = search needs

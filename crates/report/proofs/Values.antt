@@ -13,10 +13,9 @@ use mir.Syntax.{w64}
 use mir.Val.{ofZ, toZ, SFits}
 use mir.ValLaws.{toZ-ofZ}
 use borrow.Author.Tests.{eqb-true}
-use Rattle.report.specs.Written.{Written}
 use lib.ListN.{length, getD, take, drop}
 use lib.Seq.{take-suc, drop-cons}
-use Rattle.run_passes.specs.Line.{signedText, valuesText, isSeven, isKept}
+use Rattle.report.specs.Call.{signedText, valuesText, isSeven, isKept}
 
 text-append : (a b : List ℤ) → valuesText (a ++ b) ≡ valuesText a ++ valuesText b
 unfolding valuesText
@@ -32,11 +31,6 @@ pub text-more : (values : List ℤ) (i : ℕ) → i < length values
     → valuesText (take i values) ++ signedText (getD values i (pos 0)) ≡ valuesText (take (i + 1) values)
 text-more values i h =
     sym (rw (add-one, take-suc values i (pos 0) h) (text-append (take i values) (getD values i (pos 0) ∷ []) ∙ ap (λ (t : List ℕ). valuesText (take i values) ++ t) (text-one _)))
-
--- no text is written by leaving a buffer as it is
-pub nothing-written : (old : List ℕ) (at : ℕ) → Written old at (valuesText []) old at
-unfolding valuesText
-nothing-written old at = record { past = omega arith; bytes = refl }
 
 pub seven : (x : ℤ) → SFits w64 x → ofZ w64 x ≡ 7 → isSeven x ≡ true
 seven x f h = let e : x ≡ pos 7 = sym (toZ-ofZ w64 x f) ∙ ap (toZ w64) h in rw e

@@ -1,16 +1,16 @@
--- `run_passes::line::is_kept` meets its contract. The loop's invariant: what is left tells whether the whole is kept.
+-- `report::is_kept` meets its contract. The loop's invariant: what is left tells whether the whole is kept.
 -- Assumes nothing.
 use mathlib.Core.Path.{_≡_, refl, _∙_}
 use Prim.Native.Nat.{_-_, _≤_}
 use lib.ListN.{length, drop, getD}
 use lib.IntN.{pos}
-use Rattle.run_passes.specs.Line.{isKept}
+use Rattle.report.specs.Call.{isKept}
 use native.Mathlib.Omega.{arith}
 use denote.Ref.{now}
-use Rattle.run_passes.proofs.Lines.{seven, not-seven, kept-more, kept-not, kept-end}
+use Rattle.report.proofs.Values.{seven, not-seven, kept-more, kept-not, kept-end}
 use borrow.Author.Needs.{needs}
-use Rattle.run_passes.proofs.line.is_kept.Statement.{statement}
-use Rattle.run_passes.proofs.line.is_kept.Tie as tie
+use Rattle.report.proofs.calls.is_kept.Statement.{statement}
+use Rattle.report.proofs.calls.is_kept.Tie as tie
 
 abbrev Inv-loop : tie.InvT-loop
 Inv-loop slice i₀ i = (i ≤ length slice) × (isKept (drop i slice) ≡ isKept slice)
