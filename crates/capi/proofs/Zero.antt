@@ -23,8 +23,9 @@ use Rattle.node.specs.Layout.{streamsOf, propertyOf}
 use Rattle.node.specs.Rules as node-rules
 use Rattle.node.specs.Rules.{lengthOk}
 use Rattle.node.specs.Verdict.{passesOf, recordsVerdict, verdictOf as nodeVerdict}
+use Rattle.streams.specs.Instant.{inputFits, valueInside}
 use Rattle.session.specs.declared.Session.{Session}
-use Rattle.session.specs.Instants.{inputFits, workedOut, valueInside, answerOf}
+use Rattle.session.specs.Instants.{workedOut, answerOf}
 use Rattle.session.specs.Records.{held, holdsNode}
 use Rattle.constraints.specs.Layout.{trailerOf, lineOf}
 use Rattle.constraints.specs.Rules.{fixedOk, countsOk, distanceOk}

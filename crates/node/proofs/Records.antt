@@ -3,8 +3,8 @@
 use mathlib.Core.Path.{_≡_, refl}
 use mathlib.Core.Bool.{Bool, true, false, cond, _&&_}
 use mathlib.Core.List.{List}
-use Prim.Native.Nat.{ℕ, _<_, _≤_, _^_}
-use native.Mathlib.Nat.{not-suc-le-zero}
+use Prim.Native.Nat.{ℕ, _<_, _≤_, _^_, zero-le}
+use native.Mathlib.Nat.{not-suc-le-zero, le-refl}
 use native.Mathlib.Omega.{arith}
 use borrow.Author.Tests.{leb-true}
 use lib.Dec.{leb}
@@ -13,6 +13,15 @@ use Rattle.answers.proofs.Tests.{both-true}
 use Rattle.node.specs.Equations.{kindAt, equationAt, kindAmong, equationAmong}
 use Rattle.node.specs.Inputs.{isInput, isInputAmong}
 use Rattle.node.specs.Layout.{recordsOf, streamsOf, sizeOf, recordOf, typeOf, recordAmong, typeAmong}
+
+-- a file has no more records than its trailer says
+pub records-le : (s : List ℕ) → recordsOf s ≤ streamsOf s
+unfolding recordsOf
+records-le s = go (leb 16 (length s) && leb (sizeOf (streamsOf s)) (length s))
+  where
+    go : (b : Bool) → cond b (streamsOf s) 0 ≤ streamsOf s
+    go true = le-refl (streamsOf s)
+    go false = zero-le
 
 -- a file that has a record has room for all n and the trailer
 records-fit : (s : List ℕ) (i : ℕ) → i < recordsOf s → sizeOf (recordsOf s) ≤ length s

@@ -19,5 +19,6 @@ pub use file_note::note_length;
 pub use inputs::input_count;
 pub use inputs::is_input_among;
 pub use inputs::with_record;
+pub use layout::records_of;
 pub use reading::verdict;
 pub use rules::length_ok;

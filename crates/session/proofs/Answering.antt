@@ -24,13 +24,14 @@ use Rattle.node.specs.Verdict.{verdictOf}
 use Rattle.node.proofs.FileRules.{Sizes}
 use Rattle.node.proofs.Notes.{accepted-sizes}
 use Rattle.streams.specs.Evaluation.{upTo}
+use Rattle.streams.specs.Instant.{inputFits, instantOf, valueInside, filled}
 use Rattle.streams.specs.Nodes.{nodeOf}
 use Rattle.streams.proofs.Evaluations.{instant-length}
 use Rattle.session.specs.declared.Session.{Session}
 use Rattle.session.specs.declared.holding.Held.{Held}
 use Rattle.session.specs.declared.holding.Held.the-variants.{Streams, NoNode}
-use Rattle.session.specs.Records.{filled, held, unstarted, isNode, holdsNode}
-use Rattle.session.specs.Instants.{inputFits, instantOf, workedOut, valueInside, inOrder, answerOf, movedTo, sessionOf, sliceOf}
+use Rattle.session.specs.Records.{held, unstarted, isNode, holdsNode}
+use Rattle.session.specs.Instants.{workedOut, inOrder, answerOf, movedTo, sessionOf, sliceOf}
 use Rattle.session.specs.Working.{nodeHeld}
 use Rattle.session.proofs.Filled.{over, over-whole, start-of-filled}
 

@@ -12,8 +12,9 @@ use Rattle.node.specs.Layout.{sizeOf}
 use Rattle.node.specs.Verdict.{verdictOf}
 use Rattle.node.proofs.Notes.{accepted-sizes, note-is, rest-size}
 use Rattle.node.proofs.Outcomes.{accepted-values}
+use Rattle.streams.specs.Instant.{filled}
 use Rattle.session.specs.declared.Session.{Session}
-use Rattle.session.specs.Records.{filled, begun, begunOf}
+use Rattle.session.specs.Records.{begun, begunOf}
 
 module _ (file : List ℕ) where
   pub few-streams : {node : NodeValues} → verdictOf file ≡ accepted node → node .streams ≤ 64

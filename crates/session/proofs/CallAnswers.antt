@@ -22,6 +22,7 @@ use Rattle.node.specs.Equations.{kindAt, equationAt}
 use Rattle.node.specs.Inputs.{inputCount}
 use Rattle.node.specs.Layout.{streamsOf}
 use Rattle.node.specs.Verdict.{verdictOf}
+use Rattle.streams.specs.Instant.{inputFits, valueInside}
 use Rattle.streams.specs.Nodes.{Node, nodeOf}
 use Rattle.streams.specs.Solutions.{Streams}
 use Rattle.streams.specs.Typing.{TypedInstant, given}
@@ -29,7 +30,7 @@ use Rattle.streams.specs.Values.{Values, valuesIn}
 use Rattle.node.proofs.InputCounts.{equation-input}
 use Rattle.streams.proofs.Numbers.{fits-test}
 use Rattle.session.specs.declared.Session.{Session}
-use Rattle.session.specs.Instants.{inputFits, workedOut, valueInside, inOrder, answerOf}
+use Rattle.session.specs.Instants.{workedOut, inOrder, answerOf}
 use Rattle.session.specs.Lists.{Call, Answered, answerTo}
 use Rattle.session.specs.Records.{held}
 use Rattle.session.specs.Theorems.{Judged, inputTyped, answerGiven}

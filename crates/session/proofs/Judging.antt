@@ -19,10 +19,10 @@ use Rattle.streams.specs.Nodes.{nodeOf}
 use Rattle.streams.specs.Solutions.{Streams}
 use Rattle.streams.specs.Typing.{Fits, fitsTest, Inputs, TypedInstant, TypedInputs}
 use Rattle.streams.proofs.AcceptedNodes.{one-solution}
+use Rattle.streams.proofs.Filled.{same-everywhere}
 use Rattle.streams.proofs.Numbers.{fits-test}
 use Rattle.session.specs.Lists.{Answered, call}
 use Rattle.session.specs.Theorems.{Solves}
-use Rattle.session.proofs.Filled.{same-everywhere}
 
 -- within a list the default does not matter
 getD-within : {A : Type 0} (l : List A) (n : ℕ) (d e : A) → n < length l → getD l n d ≡ getD l n e

@@ -11,5 +11,3 @@ pub mod Sessions
 pub mod Showing
 pub mod Standing
 pub mod Steps
-pub mod Typed
-pub mod WorkingOut

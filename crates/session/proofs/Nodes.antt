@@ -17,9 +17,9 @@ use Rattle.node.specs.Verdict.{verdictOf}
 use Rattle.node.proofs.Notes.{accepted-sizes}
 use Rattle.node.proofs.Outcomes.{accepted-values}
 use Rattle.node.proofs.WithoutNote.{without-note-accepted, without-note-record}
+use Rattle.streams.specs.Instant.{inputFits}
 use Rattle.streams.specs.Nodes.{Node, nodeOf}
 use Rattle.streams.specs.Typing.{fitsTest, given}
-use Rattle.session.specs.Instants.{inputFits}
 
 abbrev valuesOf : List ℕ → NodeValues
 valuesOf s = record { streams = streamsOf s; property = propertyOf s }

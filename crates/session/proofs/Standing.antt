@@ -20,6 +20,7 @@ use Rattle.node.specs.Verdict.{verdictOf}
 use Rattle.node.proofs.WellFormedness.{accepted-well-formed}
 use Rattle.node.proofs.WithoutNote.{without-note-accepted}
 use Rattle.streams.specs.Evaluation.{upTo, instant}
+use Rattle.streams.specs.Instant.{instantOf}
 use Rattle.streams.specs.Nodes.{Node, nodeOf, WellFormedNode}
 use Rattle.streams.specs.Solutions.{Streams, isFirst, before, Solution}
 use Rattle.streams.specs.Typing.{Fits, fitsTest, Inputs, TypedInstant}
@@ -31,7 +32,7 @@ use Rattle.streams.proofs.Numbers.{fits-test}
 use Rattle.streams.proofs.Orders.{byNumber, ranked-by-number, record-order}
 use Rattle.streams.proofs.Types.{types-kept}
 use Rattle.session.specs.declared.Session.{Session}
-use Rattle.session.specs.Instants.{instantOf, workedOut}
+use Rattle.session.specs.Instants.{workedOut}
 use Rattle.session.specs.Lists.{Answered}
 use Rattle.session.specs.Records.{held, unstarted, valueTyped, holdsNode}
 use Rattle.session.specs.Theorems.{StartsWith, Shows}

@@ -11,6 +11,7 @@ use Rattle.answers.specs.Answer.{Answer, accepted, refused, NodeValues, ifAccep
 use Rattle.node.specs.Equations.{kindAt}
 use Rattle.node.specs.Layout.{streamsOf}
 use Rattle.node.specs.Verdict.{verdictOf}
+use Rattle.streams.specs.Instant.{filled}
 use Rattle.streams.specs.Nodes.{nodeOf}
 use Rattle.streams.specs.Solutions.{Streams, isFirst, Solution}
 use Rattle.streams.specs.Typing.{Fits, Inputs, TypedInstant}
@@ -18,7 +19,6 @@ use Rattle.streams.specs.Values.{valuesIn}
 use Rattle.session.specs.declared.Session.{Session}
 use Rattle.session.specs.Instants.{workedOut, movedOn, sessionOf, sliceOf}
 use Rattle.session.specs.Lists.{Call, Answered, answerTo, after, sliceAfter}
-use Rattle.session.specs.Records.{filled}
 use Rattle.session.specs.Theorems.{StartsWith}
 use Rattle.session.proofs.CallAnswers.{answered-typed}
 use Rattle.session.proofs.Showing.{more-length, call-own, starts-before, shows-more}

@@ -1,40 +1,23 @@
 -- The outcome of an instant's call: answer, record and slice. "Every refusal leaves session and slices as before the call."
 use Prim.Native.Nat.{ℕ}
 use mathlib.Core.List.{List}
-use mathlib.Core.Bool.{Bool, not, _||_}
+use mathlib.Core.Bool.{Bool}
 use lib.Dec.{eqb}
 use lib.IntN.{ℤ, pos}
 use lib.ListN.{length, replicate}
-use Rattle.integers.specs.Range.{inside}
 use Rattle.answers.specs.declared.Found.{Found}
 use Rattle.answers.specs.declared.Place.the-variants.{File, Record as AtRecord}
 use Rattle.answers.specs.Answer.{Answer, accepted, ifAccepted}
 use Rattle.answers.specs.Checks.{check, checkAll, lowest}
-use Rattle.node.specs.Equations.{kindAt}
-use Rattle.node.specs.Inputs.{isInput, inputCount}
+use Rattle.node.specs.Inputs.{inputCount}
 use Rattle.node.specs.Layout.{streamsOf}
-use Rattle.streams.specs.Evaluation.{upTo, instant}
-use Rattle.streams.specs.Nodes.{nodeOf}
-use Rattle.streams.specs.Typing.{fitsTest, given}
-use Rattle.streams.specs.Values.{valuesIn}
+use Rattle.streams.specs.Instant.{inputFits, instantOf, valueInside, filled}
 use Rattle.session.specs.declared.Session.{Session}
-use Rattle.session.specs.Records.{filled, held, unstarted, holdsNode}
+use Rattle.session.specs.Records.{held, unstarted, holdsNode}
 
--- 33: "bool input not 0 or 1", of record i
-unfoldable pub inputFits : (file : List ℕ) → (inputs : List ℤ) → (i : ℕ) → Bool
-inputFits file inputs i = not (isInput file i) || fitsTest (kindAt file i) (given (nodeOf file) inputs i)
-
--- "All n streams are worked out, untaken branches too", over whole numbers
-unfoldable pub instantOf : (file : List ℕ) → (inputs : List ℤ) → (first : Bool) → (past : List ℤ) → List ℤ
-instantOf file inputs first past = instant (nodeOf file) (upTo (streamsOf file)) inputs first past
-
--- .. of the held node
+-- all streams of the held node, worked out
 abbrev pub workedOut : Session → (inputs : List ℤ) → List ℤ
 workedOut s inputs = instantOf (held s) inputs (unstarted s) (s .last)
-
--- 34: "value outside −2^63 to 2^63 − 1", of stream i
-abbrev pub valueInside : (values : List ℤ) → (i : ℕ) → Bool
-valueInside values i = inside (valuesIn values i)
 
 -- 30 to 34 in order, from what each test gives
 abbrev pub inOrder : (node count size : Bool) → (input value : Found) → Answer (Unit {0})

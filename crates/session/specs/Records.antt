@@ -1,6 +1,6 @@
 -- The session record: "The caller lends the session record, and an answered instant moves that very record on."
-use Prim.Native.Nat.{ℕ, _-_}
-use mathlib.Core.List.{List, _++_}
+use Prim.Native.Nat.{ℕ}
+use mathlib.Core.List.{List}
 use mathlib.Core.Bool.{Bool, _&&_, _||_}
 use lib.Dec.{leb, eqb}
 use lib.IntN.{ℤ, pos}
@@ -11,13 +11,10 @@ use Rattle.node.specs.Equations.{kindAt}
 use Rattle.node.specs.Layout.{streamsOf}
 use Rattle.node.specs.Note.{withoutNote}
 use Rattle.node.specs.Verdict.{verdictOf}
+use Rattle.streams.specs.Instant.{filled}
 use Rattle.streams.specs.Typing.{fitsTest}
 use Rattle.streams.specs.Values.{valuesIn}
 use Rattle.session.specs.declared.Session.{Session}
-
--- a list with as many of z after it as fill n places
-abbrev pub filled : {A : Type 0} → (n : ℕ) → (z : A) → List A → List A
-filled n z l = l ++ replicate (n - length l) z
 
 -- "Beginning takes a node file, checked by 1 to 8, and sets the record to its node, before instant 0." What the last values are
 -- before instant 0 is free in the paper: they are 0.

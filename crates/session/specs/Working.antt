@@ -1,11 +1,9 @@
 -- What the steps of an instant's call give.
 use Prim.Native.Nat.{ℕ}
 use mathlib.Core.List.{List}
-use mathlib.Core.Bool.{Bool, true, false, cond}
-use lib.IntN.{ℤ, pos}
+use mathlib.Core.Bool.{Bool, cond}
+use lib.IntN.{ℤ}
 use lib.ListN.{take}
-use Rattle.integers.specs.declared.Checked.{Checked}
-use Rattle.integers.specs.declared.Checked.the-variants.{Value, Outside}
 use Rattle.node.specs.Layout.{streamsOf}
 use Rattle.session.specs.declared.holding.Held.{Held}
 use Rattle.session.specs.declared.holding.Held.the-variants.{Streams, NoNode}
@@ -18,12 +16,3 @@ nodeIn file first last = cond (isNode file first last) (Streams (streamsOf file)
 -- the node that a record with these parts holds
 unfoldable pub nodeHeld : (file : List ℕ) → (size : ℕ) → (first : Bool) → (last : List ℤ) → Held
 nodeHeld file size first last = cond (holds file size first last) (Streams (streamsOf (take size file))) NoNode
-
--- a checked value is there; what the array takes of it, 0 where it is not
-abbrev pub isValue : Checked → Bool
-isValue (Value v) = true
-isValue Outside = false
-
-abbrev pub numberIn : Checked → ℤ
-numberIn (Value v) = v
-numberIn Outside = pos 0

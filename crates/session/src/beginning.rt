@@ -7,7 +7,8 @@ ghost use mathlib.Core.Path.{_≡_};
 ghost use lib.ListN.{length, drop};
 ghost use Rattle.answers.specs.Answer.{accepted, nodeAnswer};
 ghost use Rattle.node.specs.Verdict.{verdictOf};
-ghost use Rattle.session.specs.Records.{filled, begun as begunOn, begunOf};
+ghost use Rattle.streams.specs.Instant.{filled};
+ghost use Rattle.session.specs.Records.{begun as begunOn, begunOf};
 
 // The answer, and the record that the call leaves.
 pub struct BegunSession {

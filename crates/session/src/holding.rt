@@ -1,9 +1,9 @@
 // Whether a record holds a node.
-use crate::numbers::is_typed;
-use crate::numbers::number_at;
 use answers::NodeVerdict;
 use node::kind_among;
 use node::verdict;
+use streams::is_typed;
+use streams::number_at;
 ghost use mathlib.Core.Path.{_≡_};
 ghost use lib.ListN.{length};
 ghost use Rattle.answers.specs.Checks.{every};

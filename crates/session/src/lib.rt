@@ -1,13 +1,10 @@
 // Sessions: a node run instant by instant over a record that the caller lends.
 mod beginning;
 mod holding;
-mod inputs;
 mod lent;
-mod numbers;
 mod outcomes;
 mod refusals;
 mod stepping;
-mod values;
 
 pub use beginning::BegunSession;
 pub use beginning::begun;

@@ -2,18 +2,18 @@
 use crate::Session;
 use crate::holding::Held;
 use crate::holding::node_held;
-use crate::inputs::first_bad;
 use crate::refusals;
-use crate::values::worked_out;
 use answers::Found;
 use answers::InstantVerdict;
 use answers::Place;
 use node::input_count;
+use streams::first_bad;
+use streams::worked_out;
 ghost use mathlib.Core.Path.{_≡_};
 ghost use lib.IntN.{pos};
 ghost use Rattle.answers.specs.Answer.{accepted, instantAnswer};
+ghost use Rattle.streams.specs.Instant.{filled};
 ghost use Rattle.session.specs.Instants.{answerOf, workedOut};
-ghost use Rattle.session.specs.Records.{filled};
 
 // The answer, and the values of an answered call.
 pub struct Outcome {
@@ -50,10 +50,10 @@ pub fn outcome_of(s: Session, inputs: &[i64], room: usize) -> Outcome
     if room != n {
         return refused(refusals::SLICE_LENGTH, Place::File);
     }
-    if let Found::At(i) = first_bad(node, inputs, n) {
+    if let Found::At(i) = first_bad(node, inputs) {
         return refused(refusals::BOOL_INPUT, Place::Record(i));
     }
-    let worked = worked_out(node, inputs, first, &last, n);
+    let worked = worked_out(node, inputs, first, &last);
     let outside = worked.outside;
     if let Found::At(i) = outside {
         return refused(refusals::OUTSIDE_RANGE, Place::Record(i));

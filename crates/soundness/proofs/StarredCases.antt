@@ -28,8 +28,9 @@ use Rattle.rules.specs.Joins.{standsFrom, joins, joinOk}
 use Rattle.rules.specs.Lines.{slotOk, numbersOk, shapeOk as lineShape, basePropertyOk, stepPropertyOk, clauseIs, equationIn, kindFault}
 use Rattle.rules.specs.Verdict.{shapePasses, lineFault, partsVerdict, linesVerdict, constraintsVerdict, fileVerdict, beforeLines, verdictOf}
 use Rattle.streams.specs.Evaluation.{upTo, evaluated, instant}
+use Rattle.streams.specs.Instant.{inputFits, instantOf}
 use Rattle.streams.specs.Values.{equals, truth, valuesIn}
-use Rattle.session.specs.Instants.{inputFits, instantOf, workedOut, answerOf, sliceOf}
+use Rattle.session.specs.Instants.{workedOut, answerOf, sliceOf}
 use Rattle.session.specs.Lists.{Call}
 use Rattle.session.specs.Records.{begun, holdsNode}
 use Rattle.session.proofs.CallAnswers.{answered-typed}

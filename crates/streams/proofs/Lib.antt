@@ -1,9 +1,12 @@
 pub mod AcceptedNodes
 pub mod Agreement
 pub mod Evaluations
+pub mod Filled
 pub mod Keeping
 pub mod Numbers
 pub mod Orders
 pub mod Reading
 pub mod Results
+pub mod Typed
 pub mod Types
+pub mod WorkingOut

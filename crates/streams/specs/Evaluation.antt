@@ -15,9 +15,13 @@ unfoldable pub upTo : (n : ℕ) → List ℕ
 upTo zero = []
 upTo (suc n) = upTo n ++ (n ∷ [])
 
--- stream s worked out from the values so far, and set among them
+-- the value of stream s, worked out from the values so far: its row's, whatever reads it
+abbrev pub worked : Node → (inputs : List ℤ) → (first : Bool) → (past : Values) → (s : ℕ) → (present : Values) → ℤ
+worked node inputs first past s present = row node inputs first past s present
+
+-- .. and set among them
 abbrev pub settled : Node → (inputs : List ℤ) → (first : Bool) → (past : Values) → (s : ℕ) → (present : List ℤ) → List ℤ
-settled node inputs first past s present = set present s (row node inputs first past s (valuesIn present))
+settled node inputs first past s present = set present s (worked node inputs first past s (valuesIn present))
 
 -- the first k streams of the order, one after another, from what the array held at the start
 unfoldable pub evaluated : Node → (order : List ℕ) → (inputs : List ℤ) → (first : Bool) → (past : Values) → (start : List ℤ) → (k : ℕ) → List ℤ

@@ -1,4 +1,5 @@
 pub mod Evaluation
+pub mod Instant
 pub mod Meaning
 pub mod Nodes
 pub mod Solutions

@@ -1,4 +1,5 @@
-// The value of one equation over 64-bit numbers: that of its operator's row, where 64 signed bits hold it.
+// What a node means over 64-bit numbers: the value of one equation, that of its operator's row where 64 signed bits hold it, and of
+// all streams at one instant. Every published call is total.
 use integers::Checked;
 use node::Equation;
 use operators::at_most;
@@ -18,8 +19,16 @@ ghost use Rattle.integers.specs.Range.{checkedOf};
 ghost use Rattle.streams.specs.Meaning.{meaning};
 ghost use Rattle.streams.specs.Values.{valuesIn};
 
+mod inputs;
 mod operands;
 mod operators;
+mod values;
+
+pub use inputs::first_bad;
+pub use inputs::is_typed;
+pub use operands::number_at;
+pub use values::Worked;
+pub use values::worked_out;
 
 // The value of a stream by its equation: `given` is its input, `past` and `present` are the values of all streams one instant
 // before and at this instant. What they do not hold counts as 0.

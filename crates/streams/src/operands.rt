@@ -1,14 +1,20 @@
-// Values read by their stream's number.
+// Numbers of a list, and values read by their stream's number.
 ghost use mathlib.Core.Path.{_≡_};
 ghost use lib.Signed.{leZ};
 ghost use Rattle.streams.specs.Values.{equals, truth, valuesIn};
+
+// Number i of a list; past the end, 0.
+pub fn number_at(numbers: &[i64], i: usize) -> i64
+    ensures { λ r. ⌜ r ≡ valuesIn (now (numbers .entry)) i ⌝ }
+{
+    if i < numbers.len() { numbers[i] } else { 0 }
+}
 
 // The value of stream s; past the end, 0.
 pub fn entry(values: &[i64], s: u16) -> i64
     ensures { λ r. ⌜ r ≡ valuesIn (now (values .entry)) s ⌝ }
 {
-    let i = s as usize;
-    if i < values.len() { values[i] } else { 0 }
+    number_at(values, s as usize)
 }
 
 // Whether a is at most b.

@@ -6,15 +6,18 @@ use native.Mathlib.Omega.{arith}
 use borrow.Author.Tests.{eq-eqb, ne-eqb}
 use denote.Ref.{now}
 use lib.Dec.{eqb}
+use lib.IntN.{pos}
 use lib.ListN.{length, length-map}
 use lib.Seq.{length-take-le}
 use Rattle.answers.specs.declared.Found.the-variants.{Nothing}
 use Rattle.answers.specs.Checks.{lowest}
 use Rattle.node.specs.Inputs.{inputCount}
-use Rattle.node.specs.Layout.{streamsOf, recordsOf}
-use Prim.Native.Nat.{_≤_}
+use Rattle.node.specs.Layout.{streamsOf}
+use Rattle.node.proofs.FileRules.{Sizes}
+use Rattle.streams.specs.Instant.{inputFits, valueInside, filled}
+use Rattle.streams.proofs.WorkingOut.{count-whole, instant-whole}
 use Rattle.session.specs.Records.{held, holdsNode}
-use Rattle.session.specs.Instants.{inputFits, workedOut, valueInside}
+use Rattle.session.specs.Instants.{workedOut}
 use Rattle.session.proofs.Answering.{holds-none, holds-one, held-short, held-sizes, answer-by, refusal}
 use borrow.Author.Needs.{needs}
 use Rattle.session.proofs.outcomes.outcome_of.Statement.{statement}
@@ -75,23 +78,20 @@ counted c = rw (c .before .input-count .ensures) at (eq-eqb _ _ (c .if1 .left))
 sized : (c : tie.Else2) → let a = start-of (told-of c) .args in eqb (a .room) (streamsOf (held (a .s))) ≡ true
 sized c = rw (one (told-of c) .1) at (eq-eqb _ _ (c .if2 .left))
 
-few : (c : tie.Else2) → told-of c .before .n .given .0 .0 ≤ 64
-few c = omega (arith, one (told-of c) .1, held-sizes _ (one (told-of c) .0) .few)
-
-counts : (c : tie.Else2) → told-of c .before .n .given .0 .0 ≡ recordsOf (held (start-of (told-of c) .args .s))
-counts c = one (told-of c) .1 ∙ sym (held-sizes _ (one (told-of c) .0) .records)
+sizes : (c : tie.Else2) → Sizes (held (start-of (told-of c) .args .s))
+sizes c = held-sizes _ (one (told-of c) .0)
 
 -- what the searches found is the definition's
 bad-is : (c : tie.After-first-bad) → let a = start-of (told-of (c .before)) .args in lowest (inputFits (held (a .s)) (now (a .inputs))) (streamsOf (held (a .s))) ≡ c .first-bad .result
-bad-is c = ap (lowest _) (sym (one (told-of (c .before)) .1)) ∙ sym (c .first-bad .ensures)
+bad-is c = ap (lowest _) (sym (sizes (c .before) .records)) ∙ sym (c .first-bad .ensures)
 
 typed : (c : tie.After-enum-told2) → let a = start-of (told-of (c .before .before .before)) .args in lowest (inputFits (held (a .s)) (now (a .inputs))) (streamsOf (held (a .s))) ≡ Nothing
 typed c = bad-is (c .before .before) ∙ c .enum-told2 .given .1
 
 outside-is : (c : tie.After-worked-out) → let a = start-of (told-of (c .before .before .before .before .before)) .args in lowest (valueInside (workedOut (a .s) (now (a .inputs)))) (streamsOf (held (a .s))) ≡ c .worked-out .result .outside
 outside-is c =
-    let at = c .before .before .before .before .before in
-    ap (lowest _) (sym (one (told-of at) .1)) ∙ sym (c .worked-out .ensures .0)
+    let size = sizes (c .before .before .before .before .before) in
+    ap (lowest _) (sym (count-whole _ (size .records) (size .few))) ∙ sym (c .worked-out .ensures .0)
 
 returns-2 : tie.Need-returns-2
 returns-2 c =
@@ -110,7 +110,7 @@ returns-3 c =
     (answer-by _ _ _ (one told .0) (counted at) (rw (one told .1) at (ne-eqb _ _ (c .before .if2 .taken))) refl refl)
 
 first-bad-requires : tie.Need-first-bad-requires
-first-bad-requires c κs = (counts c, few c)
+first-bad-requires c κs = search needs
 
 enum-known-i : tie.Need-enum-known-i
 enum-known-i c = search needs
@@ -132,7 +132,7 @@ slice-aggregate-worked-out : tie.Need-slice-aggregate-worked-out
 slice-aggregate-worked-out c = search needs
 
 worked-out-requires : tie.Need-worked-out-requires
-worked-out-requires c κs = let at = c .before .before .before .before in (counts at, one (told-of at) .1, few at)
+worked-out-requires c κs = search needs
 
 enum-known-outside : tie.Need-enum-known-outside
 enum-known-outside c = search needs
@@ -158,7 +158,7 @@ returns-6 c =
     let at = told .before .before .before in
     let none = c .before .enum-told3 .given .1 in (
       answer-by _ _ _ (one (told-of at) .0) (counted (at .before)) (sized at) (typed told) (outside-is worked ∙ none),
-      λ e. worked .worked-out .ensures .1 none,
+      λ e. worked .worked-out .ensures .1 none ∙ ap (filled 64 (pos 0)) (instant-whole _ (sizes at .records) (sizes at .few) _ _ _),
     )
 
 pub outcome-of-spec : {M : Type 1} → statement M

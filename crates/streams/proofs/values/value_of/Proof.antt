@@ -1,6 +1,6 @@
--- `session::value_of` meets its contract: the value of the stream's equation.
+-- `streams::value_of` meets its contract: the value of the stream's equation.
 -- Assumes nothing.
-use mathlib.Core.Path.{_∙_, ap₂}
+use mathlib.Core.Path.{_∙_, ap, ap₂}
 use lib.IntN.{ℤ}
 use denote.Ref.{now}
 use mir.Syntax.{w64}
@@ -9,11 +9,11 @@ use mir.Facts.{toZ-ofZ}
 use Rattle.integers.specs.Range.{checkedOf}
 use Rattle.node.specs.declared.equation.Equation.{Equation}
 use Rattle.node.proofs.Records.{equation-among}
 use Rattle.streams.specs.Meaning.{meaning}
 use Rattle.streams.specs.Values.{valuesIn}
 use borrow.Author.Needs.{needs}
-use Rattle.session.proofs.values.value_of.Statement.{statement}
-use Rattle.session.proofs.values.value_of.Tie as tie
+use Rattle.streams.proofs.values.value_of.Statement.{statement}
+use Rattle.streams.proofs.values.value_of.Tie as tie
 
 equation-among-requires : tie.Need-equation-among-requires
 equation-among-requires c κs = search needs
@@ -31,8 +31,8 @@ returns c =
     let f : SFits w64 (c .before .number-at .result) = search needs in
     c .value .ensures
     ∙ ap₂ (λ (e : Equation) (g : ℤ). checkedOf (meaning e g (a .first) (valuesIn (now (a .past))) (valuesIn (now (a .present)))))
-    (c .before .before .equation-among .ensures ∙ equation-among _ _ (s .pre) _)
-    (toZ-ofZ f ∙ c .before .number-at .ensures)
+    (c .before .before .equation-among .ensures ∙ equation-among _ _ (s .pre .0) _)
+    (toZ-ofZ f ∙ c .before .number-at .ensures ∙ ap (valuesIn (now (a .inputs))) (s .pre .1))
 
 pub value-of-spec : {M : Type 1} → statement M
 value-of-spec = tie.close (tie.spec equation-among-requires number-at-requires value-requires returns)

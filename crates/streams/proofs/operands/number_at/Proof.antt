@@ -1,12 +1,12 @@
--- `session::number_at` meets its contract: past the end of the list its default is 0.
+-- `streams::number_at` meets its contract: past the end of the list its default is 0.
 -- Assumes nothing.
 use mathlib.Core.Path.{sym}
 use native.Mathlib.Omega.{arith}
 use lib.IntN.{pos}
 use lib.ListN.{List·getD-eq-default}
 use borrow.Author.Needs.{needs}
-use Rattle.session.proofs.numbers.number_at.Statement.{statement}
-use Rattle.session.proofs.numbers.number_at.Tie as tie
+use Rattle.streams.proofs.operands.number_at.Statement.{statement}
+use Rattle.streams.proofs.operands.number_at.Tie as tie
 
 mul-result : tie.Need-mul-result
 mul-result c = search needs

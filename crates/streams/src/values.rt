@@ -1,24 +1,24 @@
 // The values of all streams at one instant.
-use crate::numbers::number_at;
+use crate::operands::number_at;
+use crate::value;
 use answers::Found;
 use integers::Checked;
 use node::equation_among;
+use node::records_of;
 use node::with_record;
-use streams::value;
-ghost use Prim.Native.Nat.{_≤_};
+ghost use Prim.Native.Nat.{min};
 ghost use mathlib.Core.Path.{_≡_};
 ghost use lib.IntN.{pos};
-ghost use lib.ListN.{getD};
+ghost use lib.ListN.{take};
 ghost use Rattle.integers.specs.Range.{checkedOf};
 ghost use Rattle.answers.specs.declared.Found.the-variants.{Nothing};
 ghost use Rattle.answers.specs.Checks.{lowest, orAt};
-ghost use Rattle.node.specs.Equations.{equationAt};
-ghost use Rattle.node.specs.Layout.{streamsOf, recordsOf};
-ghost use Rattle.streams.specs.Meaning.{meaning};
+ghost use Rattle.node.specs.Inputs.{inputsBelow};
+ghost use Rattle.node.specs.Layout.{recordsOf};
+ghost use Rattle.streams.specs.Evaluation.{worked};
+ghost use Rattle.streams.specs.Instant.{instantOf, valueInside, workedCount, filled, isValue, numberIn};
+ghost use Rattle.streams.specs.Nodes.{nodeOf};
 ghost use Rattle.streams.specs.Values.{valuesIn};
-ghost use Rattle.session.specs.Instants.{instantOf, valueInside};
-ghost use Rattle.session.specs.Records.{filled};
-ghost use Rattle.session.specs.Working.{isValue, numberIn};
 
 // The lowest stream whose value 64 signed bits do not hold, and the values where there is none.
 pub struct Worked {
@@ -59,7 +59,7 @@ fn or_at(found: Found, ok: bool, i: usize) -> Found
     }
 }
 
-// The value of stream i of n, whose input, if it is one, is the number j of them.
+// The value of stream i of n, below which there are j inputs.
 fn value_of(
     file: &[u8],
     n: usize,
@@ -70,8 +70,8 @@ fn value_of(
     i: usize,
     j: usize,
 ) -> Checked
-    requires { ⌜ n ≡ recordsOf (now file) ⌝ }
-    ensures { λ r. ⌜ r ≡ checkedOf (meaning (equationAt (now (file .entry)) i) (getD (now (inputs .entry)) j (pos 0)) first (valuesIn (now (past .entry))) (valuesIn (now (present .entry)))) ⌝ }
+    requires { ⌜ (n ≡ recordsOf (now file)) × (j ≡ inputsBelow (now file) i) ⌝ }
+    ensures { λ r. ⌜ r ≡ checkedOf (worked (nodeOf (now (file .entry))) (now (inputs .entry)) first (valuesIn (now (past .entry))) i (valuesIn (now (present .entry)))) ⌝ }
 {
     value(
         equation_among(file, n, i),
@@ -82,17 +82,26 @@ fn value_of(
     )
 }
 
-// All n streams in record order, untaken branches too. Past one that 64 signed bits do not hold the array says nothing.
-pub fn worked_out(file: &[u8], inputs: &[i64], first: bool, past: &[i64], n: usize) -> Worked
-    requires { ⌜ (n ≡ recordsOf (now file)) × (n ≡ streamsOf (now file)) × (n ≤ 64) ⌝ }
-    ensures { λ r. ⌜ r .outside ≡ lowest (valueInside (instantOf (now (file .entry)) (now (inputs .entry)) first (now (past .entry)))) n ⌝ }
-    ensures { λ r. ⌜ (r .outside ≡ Nothing → r .values ≡ filled 64 (pos 0) (instantOf (now (file .entry)) (now (inputs .entry)) first (now (past .entry)))) ⌝ }
+// As many of n as an array of 64 takes.
+fn count_of(n: usize) -> usize
+    ensures { λ r. ⌜ r ≡ min n 64 ⌝ }
 {
+    if n < 64 { n } else { 64 }
+}
+
+// All streams in record order, untaken branches too, as many as the array takes. Past one that 64 signed bits do not hold the array
+// says nothing.
+pub fn worked_out(file: &[u8], inputs: &[i64], first: bool, past: &[i64]) -> Worked
+    ensures { λ r. ⌜ r .outside ≡ lowest (valueInside (instantOf (now (file .entry)) (now (inputs .entry)) first (now (past .entry)))) (workedCount (now (file .entry))) ⌝ }
+    ensures { λ r. ⌜ (r .outside ≡ Nothing → r .values ≡ filled 64 (pos 0) (take (workedCount (now (file .entry))) (instantOf (now (file .entry)) (now (inputs .entry)) first (now (past .entry))))) ⌝ }
+{
+    let n = records_of(file);
+    let count = count_of(n);
     let mut values = [0i64; 64];
     let mut outside = Found::Nothing;
     let mut j = 0;
     let mut i = 0;
-    while i < n {
+    while i < count {
         let value = value_of(file, n, inputs, first, past, &values, i, j);
         outside = or_at(outside, is_inside(value), i);
         values[i] = number_of(value);

@@ -1,4 +1,4 @@
--- `session::or_at` meets its contract: the definition's case for each case of the code.
+-- `streams::or_at` meets its contract: the definition's case for each case of the code.
 -- Assumes nothing.
 use mathlib.Core.Path.{_≡_, refl}
 use mathlib.Core.Bool.{Bool, true, false}
@@ -7,8 +7,8 @@ use Rattle.answers.specs.declared.Found.{Found}
 use Rattle.answers.specs.declared.Found.the-variants.{At, Nothing}
 use Rattle.answers.specs.Checks.{orAt}
 use borrow.Author.Needs.{needs}
-use Rattle.session.proofs.values.or_at.Statement.{statement}
-use Rattle.session.proofs.values.or_at.Tie as tie
+use Rattle.streams.proofs.values.or_at.Statement.{statement}
+use Rattle.streams.proofs.values.or_at.Tie as tie
 
 -- a stream that is inside changes nothing
 inside-keeps : (f : Found) (ok : Bool) (i : ℕ) → ok ≡ true → f ≡ orAt f ok i

@@ -1,9 +1,9 @@
--- `session::is_typed` meets its contract: each arm is the type's.
+-- `streams::is_typed` meets its contract: each arm is the type's.
 -- Assumes nothing.
 use mir.Facts.{toZ-ofZ}
 use borrow.Author.Needs.{needs}
-use Rattle.session.proofs.numbers.is_typed.Statement.{statement}
-use Rattle.session.proofs.numbers.is_typed.Tie as tie
+use Rattle.streams.proofs.inputs.is_typed.Statement.{statement}
+use Rattle.streams.proofs.inputs.is_typed.Tie as tie
 
 enum-told : tie.Need-enum-told
 enum-told c = search needs

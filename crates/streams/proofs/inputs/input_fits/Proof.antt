@@ -1,12 +1,12 @@
--- `session::input_fits` meets its contract: the operator, and the input against its type.
+-- `streams::input_fits` meets its contract: the operator, and the input against its type.
 -- Assumes nothing.
 use mathlib.Core.Path.{_∙_, ap₂}
 use mathlib.Core.Bool.{Bool, not, _||_}
 use Rattle.node.proofs.Records.{kind-among, is-input-among}
-use Rattle.session.proofs.Typed.{typed-is}
+use Rattle.streams.proofs.Typed.{typed-is}
 use borrow.Author.Needs.{needs}
-use Rattle.session.proofs.inputs.input_fits.Statement.{statement}
-use Rattle.session.proofs.inputs.input_fits.Tie as tie
+use Rattle.streams.proofs.inputs.input_fits.Statement.{statement}
+use Rattle.streams.proofs.inputs.input_fits.Tie as tie
 
 is-input-among-requires : tie.Need-is-input-among-requires
 is-input-among-requires c κs = search needs

@@ -1,11 +1,11 @@
-// The inputs of an instant's call against their types.
-use crate::numbers::is_typed;
-use crate::numbers::number_at;
+// The inputs of an instant against their types.
+use crate::operands::number_at;
 use answers::Found;
+use node::Kind;
 use node::is_input_among;
 use node::kind_among;
+use node::records_of;
 use node::with_record;
-ghost use Prim.Native.Nat.{_≤_};
 ghost use mathlib.Core.Path.{_≡_};
 ghost use mathlib.Core.Bool.{not, _||_};
 ghost use lib.IntN.{pos};
@@ -14,8 +14,18 @@ ghost use Rattle.answers.specs.Checks.{lowest};
 ghost use Rattle.node.specs.Equations.{kindAt};
 ghost use Rattle.node.specs.Inputs.{isInput};
 ghost use Rattle.node.specs.Layout.{recordsOf};
+ghost use Rattle.streams.specs.Instant.{inputFits};
 ghost use Rattle.streams.specs.Typing.{fitsTest};
-ghost use Rattle.session.specs.Instants.{inputFits};
+
+// x fits the type: of a bool it is 0 or 1.
+pub fn is_typed(kind: Kind, x: i64) -> bool
+    ensures { λ r. ⌜ r ≡ fitsTest kind x ⌝ }
+{
+    match kind {
+        Kind::Bool => (0 <= x) & (x <= 1),
+        Kind::Int => true,
+    }
+}
 
 // Record i of a file of n is no input, or its input, the number j of them, fits its type.
 fn input_fits(file: &[u8], n: usize, inputs: &[i64], i: usize, j: usize) -> bool
@@ -26,10 +36,10 @@ fn input_fits(file: &[u8], n: usize, inputs: &[i64], i: usize, j: usize) -> bool
 }
 
 // The lowest record whose input does not fit its type. The inputs below it are counted along the way.
-pub fn first_bad(file: &[u8], inputs: &[i64], n: usize) -> Found
-    requires { ⌜ (n ≡ recordsOf (now file)) × (n ≤ 64) ⌝ }
-    ensures { λ r. ⌜ r ≡ lowest (inputFits (now (file .entry)) (now (inputs .entry))) n ⌝ }
+pub fn first_bad(file: &[u8], inputs: &[i64]) -> Found
+    ensures { λ r. ⌜ r ≡ lowest (inputFits (now (file .entry)) (now (inputs .entry))) (recordsOf (now (file .entry))) ⌝ }
 {
+    let n = records_of(file);
     let mut j = 0;
     let mut i = 0;
     while i < n {

@@ -1,13 +1,13 @@
--- `session::number_of` meets its contract, for each case of a checked value.
+-- `streams::number_of` meets its contract, for each case of a checked value.
 -- Assumes nothing.
 use mathlib.Core.Path.{sym, _∙_, ap}
 use mir.Syntax.{w64}
 use mir.Val.{SFits}
 use mir.Facts.{toZ-ofZ}
-use Rattle.session.specs.Working.{numberIn}
+use Rattle.streams.specs.Instant.{numberIn}
 use borrow.Author.Needs.{needs}
-use Rattle.session.proofs.values.number_of.Statement.{statement}
-use Rattle.session.proofs.values.number_of.Tie as tie
+use Rattle.streams.proofs.values.number_of.Statement.{statement}
+use Rattle.streams.proofs.values.number_of.Tie as tie
 
 enum-known-value : tie.Need-enum-known-value
 enum-known-value c = search needs

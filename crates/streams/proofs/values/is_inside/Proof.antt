@@ -1,10 +1,10 @@
--- `session::is_inside` meets its contract, for each case of a checked value.
+-- `streams::is_inside` meets its contract, for each case of a checked value.
 -- Assumes nothing.
 use mathlib.Core.Path.{sym, ap}
-use Rattle.session.specs.Working.{isValue}
+use Rattle.streams.specs.Instant.{isValue}
 use borrow.Author.Needs.{needs}
-use Rattle.session.proofs.values.is_inside.Statement.{statement}
-use Rattle.session.proofs.values.is_inside.Tie as tie
+use Rattle.streams.proofs.values.is_inside.Statement.{statement}
+use Rattle.streams.proofs.values.is_inside.Tie as tie
 
 enum-told : tie.Need-enum-told
 enum-told c = search needs

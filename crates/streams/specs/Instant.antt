@@ -1,0 +1,45 @@
+-- One instant of a file's node: its inputs against their types, and its values, worked out in an array of 64.
+use Prim.Native.Nat.{ℕ, _-_, min}
+use mathlib.Core.List.{List, _++_}
+use mathlib.Core.Bool.{Bool, true, false, not, _||_}
+use lib.IntN.{ℤ, pos}
+use lib.ListN.{length, replicate}
+use Rattle.integers.specs.declared.Checked.{Checked}
+use Rattle.integers.specs.declared.Checked.the-variants.{Value, Outside}
+use Rattle.integers.specs.Range.{inside}
+use Rattle.node.specs.Equations.{kindAt}
+use Rattle.node.specs.Inputs.{isInput}
+use Rattle.node.specs.Layout.{streamsOf, recordsOf}
+use Rattle.streams.specs.Evaluation.{upTo, instant}
+use Rattle.streams.specs.Nodes.{nodeOf}
+use Rattle.streams.specs.Typing.{fitsTest, given}
+use Rattle.streams.specs.Values.{valuesIn}
+
+-- 33: "bool input not 0 or 1", of record i
+unfoldable pub inputFits : (file : List ℕ) → (inputs : List ℤ) → (i : ℕ) → Bool
+inputFits file inputs i = not (isInput file i) || fitsTest (kindAt file i) (given (nodeOf file) inputs i)
+
+-- "All n streams are worked out, untaken branches too", over whole numbers
+unfoldable pub instantOf : (file : List ℕ) → (inputs : List ℤ) → (first : Bool) → (past : List ℤ) → List ℤ
+instantOf file inputs first past = instant (nodeOf file) (upTo (streamsOf file)) inputs first past
+
+-- 34: "value outside −2^63 to 2^63 − 1", of stream i
+abbrev pub valueInside : (values : List ℤ) → (i : ℕ) → Bool
+valueInside values i = inside (valuesIn values i)
+
+-- how many streams an array of 64 takes: those whose records the file has. All n, where the file passes 1 to 8
+abbrev pub workedCount : (file : List ℕ) → ℕ
+workedCount file = min (recordsOf file) 64
+
+-- a list with as many of z after it as fill n places
+abbrev pub filled : {A : Type 0} → (n : ℕ) → (z : A) → List A → List A
+filled n z l = l ++ replicate (n - length l) z
+
+-- a checked value is there; what the array takes of it, 0 where it is not
+abbrev pub isValue : Checked → Bool
+isValue (Value v) = true
+isValue Outside = false
+
+abbrev pub numberIn : Checked → ℤ
+numberIn (Value v) = v
+numberIn Outside = pos 0
