@@ -8,9 +8,10 @@ use Prim.Native.Nat.{ℕ, _+_, _*_, _<_, _≤_}
 use native.Mathlib.Omega.{arith}
 use lib.ListN.{length}
 use Rattle.node.specs.Equations.{kindAt, equationAt}
-use Rattle.node.specs.Layout.{streamsOf, propertyOf, recordsOf}
+use Rattle.node.specs.Layout.{streamsOf, recordsOf}
 use Rattle.node.proofs.FileRules.{sizes}
-use Rattle.constraints.specs.Layout.{Line, trailerOf, lineAt, lineOf, constraintOf}
+use Rattle.constraints.specs.declared.layout.LineHead.{LineHead}
+use Rattle.constraints.specs.Layout.{Line, trailerOf, lineHeadAt, lineAt, lineOf, constraintOf}
 use Rattle.constraints.specs.Rules.{Sorts, sortsOf}
 use Rattle.rules.specs.Arithmetic.{arithmeticOk}
 use Rattle.rules.specs.Joins.{joinOk}
@@ -25,7 +26,7 @@ use Rattle.certificate.specs.Checkable.{Checkable}
 use Rattle.certificate.specs.Checking.{Checking}
 use Rattle.certificate.specs.Constants.{ConstantsLimited}
 use Rattle.certificate.specs.Frame.{frameOf, partIn}
-use Rattle.certificate.specs.Ready.{linesAt, LinesReady}
+use Rattle.certificate.specs.Ready.{lineWith, linesAt, LinesReady}
 use Rattle.certificate.specs.Sums.{constraintsFrom}
 use Rattle.certificate.proofs.Checkables.{checkable}
 use Rattle.certificate.proofs.NodeFacts.{constants-limited}
@@ -70,35 +71,40 @@ module _ (node cert : List ℕ) (f : Frame) (ch : Checking node cert f) where
 
   -- line i, which stands at an offset
   module _ (i at : ℕ) (e : at ≡ f .lines + 80 * i) where
-    pub line-is : lineAt cert at ≡ lineOf cert i
-    line-is = ap (lineAt cert) e ∙ ap (λ (of : ℕ → Line). of i) lines
-
-    pub shape-is : (sorts : List ℕ) → ((x : ℕ) → sortsOf sorts x ≡ sortsOfNode node x) → shapeOk (sortsOf sorts) (f .depth) (f .constraints) (lineAt cert at) ≡ shapePasses node cert i
-    unfolding shapePasses
-    shape-is sorts sorted =
-        ap₂ (λ (g : Frame) (line : Line). shapeOk (sortsOf sorts) (g .depth) (g .constraints) line) (ch .frame) line-is
-        ∙ ap (λ (of : Sorts). shapeOk of (trailerOf cert .depth) (trailerOf cert .constraints) (lineOf cert i)) (fun-ext sorted)
-
-    pub equation-is : equationIn (f .streams) (kindAt node) (equationAt node) (constraintsFrom cert (f .start)) (f .constraints) (partIn f (f .property) i .offsets) (partIn f (f .property) i .opening) (lineAt cert at) ≡ equationPasses node cert i
-    equation-is =
-        ap₂
-        (λ (g : Frame) (line : Line). equationIn (g .streams) (kindAt node) (equationAt node) (constraintsFrom cert (g .start)) (g .constraints) (partIn g (g .property) i .offsets) (partIn g (g .property) i .opening) line)
-        (ch .frame) line-is
-
-    pub property-is : partIn f (f .property) i .property (lineAt cert at) ≡ propertyPasses node cert i
-    property-is = ap₂ (λ (g : Frame) (line : Line). partIn g (g .property) i .property line) (ch .frame) line-is
+    line-here : lineAt cert at ≡ lineOf cert i
+    line-here = ap (lineAt cert) e ∙ ap (λ (of : ℕ → Line). of i) lines
 
     pub arithmetic-is : arithmeticOk (constraintsFrom cert (f .start)) (lineAt cert at) ≡ arithmeticPasses cert i
-    arithmetic-is = ap₂ (λ (g : Frame) (line : Line). arithmeticOk (constraintsFrom cert (g .start)) line) (ch .frame) line-is
+    arithmetic-is = ap₂ (λ (g : Frame) (line : Line). arithmeticOk (constraintsFrom cert (g .start)) line) (ch .frame) line-here
 
     pub line-shape : shapePasses node cert i ≡ true → ShapeFacts (sortsOfNode node) (trailerOf cert .depth) (trailerOf cert .constraints) (lineAt cert at)
     unfolding shapePasses
-    line-shape passed = rw line-is (shape-facts (sortsOfNode node) (trailerOf cert .depth) (trailerOf cert .constraints) (lineOf cert i) passed)
+    line-shape passed = rw line-here (shape-facts (sortsOfNode node) (trailerOf cert .depth) (trailerOf cert .constraints) (lineOf cert i) passed)
 
     pub line-checkable : at + 80 ≤ length cert → shapePasses node cert i ≡ true → Checkable cert (f .start) at
     line-checkable room passed =
         let shape = line-shape passed in
         rw (ch .frame) (checkable (sortsOfNode node) few cert (ch .ready) at room (shape .count) (shape .multipliers) (shape .atoms))
+
+    -- .. and whose head was read
+    module _ (h : LineHead) (g : h ≡ lineHeadAt cert at) where
+      pub line-is : lineWith cert at h ≡ lineOf cert i
+      line-is = ap (lineWith cert at) g ∙ line-here
+
+      pub shape-is : (sorts : List ℕ) → ((x : ℕ) → sortsOf sorts x ≡ sortsOfNode node x) → shapeOk (sortsOf sorts) (f .depth) (f .constraints) (lineWith cert at h) ≡ shapePasses node cert i
+      unfolding shapePasses
+      shape-is sorts sorted =
+          ap₂ (λ (g : Frame) (line : Line). shapeOk (sortsOf sorts) (g .depth) (g .constraints) line) (ch .frame) line-is
+          ∙ ap (λ (of : Sorts). shapeOk of (trailerOf cert .depth) (trailerOf cert .constraints) (lineOf cert i)) (fun-ext sorted)
+
+      pub equation-is : equationIn (f .streams) (kindAt node) (equationAt node) (constraintsFrom cert (f .start)) (f .constraints) (partIn f (f .property) i .offsets) (partIn f (f .property) i .opening) (lineWith cert at h) ≡ equationPasses node cert i
+      equation-is =
+          ap₂
+          (λ (g : Frame) (line : Line). equationIn (g .streams) (kindAt node) (equationAt node) (constraintsFrom cert (g .start)) (g .constraints) (partIn g (g .property) i .offsets) (partIn g (g .property) i .opening) line)
+          (ch .frame) line-is
+
+      pub property-is : partIn f (f .property) i .property (lineWith cert at h) ≡ propertyPasses node cert i
+      property-is = ap₂ (λ (g : Frame) (line : Line). partIn g (g .property) i .property line) (ch .frame) line-is
 
   -- lines 0 to i, each of which has passed rule 16
   pub lines-ready : (i : ℕ) → i < f .base + f .step → ((j : ℕ) → j < i + 1 → shapePasses node cert j ≡ true) → LinesReady cert (f .lines) i

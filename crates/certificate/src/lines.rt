@@ -9,6 +9,7 @@ use crate::property::base_property_ok;
 use crate::property::step_property_ok;
 use crate::refusals;
 use crate::shape::shape_ok;
+use constraints::LineHead;
 use rules::Place;
 ghost use Prim.Native.Nat.{ℕ, _+_, _*_, _<_, _≤_};
 ghost use mathlib.Core.Path.{_≡_};
@@ -16,38 +17,38 @@ ghost use mathlib.Core.Bool.{true, cond};
 ghost use lib.IntN.{pos};
 ghost use lib.ListN.{length, replicate};
 ghost use Rattle.node.specs.Equations.{kindAt, equationAt};
-ghost use Rattle.constraints.specs.Layout.{lineAt};
+ghost use Rattle.constraints.specs.Layout.{lineHeadAt};
 ghost use Rattle.constraints.specs.Rules.{sortsOf};
 ghost use Rattle.rules.specs.Joins.{joinOk};
 ghost use Rattle.rules.specs.Lines.{equationIn};
 ghost use Rattle.rules.specs.Verdict.{sortsOfNode, shapePasses, ownFault, lineFault, linePasses};
 ghost use Rattle.certificate.specs.Checking.{Checking};
 ghost use Rattle.certificate.specs.Frame.{partIn};
-ghost use Rattle.certificate.specs.Ready.{LinesReady, linesAt};
+ghost use Rattle.certificate.specs.Ready.{LinesReady, lineWith, linesAt};
 ghost use Rattle.certificate.specs.Sums.{constraintsFrom};
 
-// Rule 17, of line i, which stands at an offset.
-fn equation_passes(node: &[u8], cert: &[u8], f: Frame, at: usize, i: usize) -> bool
+// Rule 17, of line i, which stands at an offset and has this head.
+fn equation_passes(node: &[u8], cert: &[u8], f: Frame, at: usize, h: LineHead, i: usize) -> bool
     requires { ⌜ Checking (now node) (now cert) f × (at + 80 ≤ length (now cert)) ⌝ }
-    ensures { λ r. ⌜ r ≡ equationIn (f .streams) (kindAt (now (node .entry))) (equationAt (now (node .entry))) (constraintsFrom (now (cert .entry)) (f .start)) (f .constraints) (partIn f (f .property) i .offsets) (partIn f (f .property) i .opening) (lineAt (now (cert .entry)) at) ⌝ }
+    ensures { λ r. ⌜ r ≡ equationIn (f .streams) (kindAt (now (node .entry))) (equationAt (now (node .entry))) (constraintsFrom (now (cert .entry)) (f .start)) (f .constraints) (partIn f (f .property) i .offsets) (partIn f (f .property) i .opening) (lineWith (now (cert .entry)) at h) ⌝ }
 {
     let depth = f.depth as usize;
     if i < f.base {
-        equation_ok(node, cert, f, at, depth, Place::Opening)
+        equation_ok(node, cert, f, at, h, depth, Place::Opening)
     } else {
-        equation_ok(node, cert, f, at, depth + 1, Place::Unsure)
+        equation_ok(node, cert, f, at, h, depth + 1, Place::Unsure)
     }
 }
 
-// Rule 18, of line i, which stands at an offset.
-fn property_passes(cert: &[u8], f: Frame, at: usize, i: usize) -> bool
+// Rule 18, of line i, which stands at an offset and has this head.
+fn property_passes(cert: &[u8], f: Frame, at: usize, h: LineHead, i: usize) -> bool
     requires { ⌜ (at + 80 ≤ length (now cert)) × (f .depth ≤ 8) ⌝ }
-    ensures { λ r. ⌜ r ≡ partIn f (f .property) i .property (lineAt (now (cert .entry)) at) ⌝ }
+    ensures { λ r. ⌜ r ≡ partIn f (f .property) i .property (lineWith (now (cert .entry)) at h) ⌝ }
 {
     if i < f.base {
-        base_property_ok(cert, at, f.depth, f.property)
+        base_property_ok(cert, at, h, f.depth, f.property)
     } else {
-        step_property_ok(cert, at, f.depth, f.property)
+        step_property_ok(cert, at, h, f.depth, f.property)
     }
 }
 
@@ -71,27 +72,35 @@ fn unless(ok: bool, number: usize) -> usize
 }
 
 // The number of the rule of line i's kind, where the line breaks it, else 0; rule 16 has passed it and the lines before it.
-fn own_fault(sums: &mut [i64], node: &[u8], cert: &[u8], f: Frame, at: usize, i: usize) -> usize
-    requires { ⌜ Checking (now node) (now cert) f × (at ≡ f .lines + 80 * i) ⌝ }
+fn own_fault(
+    sums: &mut [i64],
+    node: &[u8],
+    cert: &[u8],
+    f: Frame,
+    at: usize,
+    h: LineHead,
+    i: usize,
+) -> usize
+    requires { ⌜ Checking (now node) (now cert) f × (at ≡ f .lines + 80 * i) × (h ≡ lineHeadAt (now cert) at) ⌝ }
     requires { ⌜ (shapePasses (now node) (now cert) i ≡ true) × LinesReady (now cert) (f .lines) i ⌝ }
     requires { ⌜ now sums ≡ replicate 576 (pos 0) ⌝ }
     ensures answer { λ r. ⌜ r ≡ ownFault (now (node .entry)) (now (cert .entry)) i ⌝ }
     ensures cleared { λ r. ⌜ (r ≡ 0 → now (sums .exit) ≡ replicate 576 (pos 0)) ⌝ }
 {
-    let kind = line_head(cert, at).kind;
+    let kind = h.kind;
     if kind == 1 {
-        let ok = equation_passes(node, cert, f, at, i);
+        let ok = equation_passes(node, cert, f, at, h, i);
         return unless(ok, refusals::EQUATION);
     }
     if kind == 2 {
-        let ok = property_passes(cert, f, at, i);
+        let ok = property_passes(cert, f, at, h, i);
         return unless(ok, refusals::PROPERTY);
     }
     if kind == 3 {
         let ok = join_passes(cert, f, i);
         return unless(ok, refusals::JOIN);
     }
-    let ok = arithmetic_ok(sums, cert, f.start, at);
+    let ok = arithmetic_ok(sums, cert, f.start, at, h.count as usize);
     unless(ok, refusals::ARITHMETIC)
 }
 
@@ -112,8 +121,9 @@ pub fn line_fault(
     ensures cleared { λ r. ⌜ (r ≡ 0 → now (sums .exit) ≡ replicate 576 (pos 0)) ⌝ }
 {
     let at = block_at(f.lines, i);
-    if !shape_ok(cert, at, sorts, f.depth, f.constraints) {
+    let h = line_head(cert, at);
+    if !shape_ok(cert, at, h, sorts, f.depth, f.constraints) {
         return refusals::SHAPE;
     }
-    own_fault(sums, node, cert, f, at, i)
+    own_fault(sums, node, cert, f, at, h, i)
 }

@@ -1,5 +1,4 @@
 // Rule 16: the shape of a line.
-use crate::layout::line_head;
 use crate::layout::literal_at;
 use crate::layout::multiplier_at;
 use constraints::LineHead;
@@ -8,10 +7,11 @@ ghost use Prim.Native.Nat.{_+_, _<_, _≤_};
 ghost use mathlib.Core.Path.{_≡_};
 ghost use lib.ListN.{length};
 ghost use Rattle.answers.specs.Checks.{every};
-ghost use Rattle.constraints.specs.Layout.{lineAt, literalAt, multiplierAt};
+ghost use Rattle.constraints.specs.Layout.{literalAt, multiplierAt};
 ghost use Rattle.constraints.specs.Rules.{sortsOf};
 ghost use Rattle.rules.specs.Literals.{namesAtom};
 ghost use Rattle.rules.specs.Lines.{multiplierOk, slotOk, numbersOk, shapeOk};
+ghost use Rattle.certificate.specs.Ready.{lineWith};
 ghost use Rattle.certificate.specs.Slots.{listedOk, unusedOk};
 
 // The number names an atom, at depth k with m constraints.
@@ -99,12 +99,11 @@ fn are_numbers(h: LineHead) -> bool
         & ((h.kind == 1) | (h.kind == 3) | (h.r == 0))
 }
 
-// Rule 16, of the line at an offset.
-pub fn shape_ok(file: &[u8], at: usize, sorts: &[u8], k: u8, m: usize) -> bool
+// Rule 16, of the line at an offset whose head was read.
+pub fn shape_ok(file: &[u8], at: usize, h: LineHead, sorts: &[u8], k: u8, m: usize) -> bool
     requires { ⌜ at + 80 ≤ length (now file) ⌝ }
-    ensures { λ r. ⌜ r ≡ shapeOk (sortsOf (now (sorts .entry))) k m (lineAt (now (file .entry)) at) ⌝ }
+    ensures { λ r. ⌜ r ≡ shapeOk (sortsOf (now (sorts .entry))) k m (lineWith (now (file .entry)) at h) ⌝ }
 {
-    let h = line_head(file, at);
     if 12 < h.count {
         return false;
     }

@@ -6,10 +6,10 @@ use Rattle.certificate.proofs.lines.join_passes.Statement.{statement}
 use Rattle.certificate.proofs.lines.join_passes.Tie as tie
 
 join-ok-requires : tie.Need-join-ok-requires
-join-ok-requires c κs = c .before .before .before .pre
+join-ok-requires c κs = search needs
 
 join-ok-requires-2 : tie.Need-join-ok-requires-2
-join-ok-requires-2 c κs = c .before .before .before .pre
+join-ok-requires-2 c κs = search needs
 
 returns : tie.Need-returns
 returns c = rw (lt-ltb _ _ (c .before .if1 .taken)) (c .join-ok .ensures)

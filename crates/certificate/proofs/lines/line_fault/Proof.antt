@@ -17,22 +17,25 @@ use Rattle.certificate.proofs.lines.line_fault.Tie as tie
 block-at-requires : tie.Need-block-at-requires
 block-at-requires c κs = search needs
 
+line-head-requires : tie.Need-line-head-requires
+line-head-requires c κs = search needs
+
 shape-ok-requires : tie.Need-shape-ok-requires
 shape-ok-requires c κs = search needs
 
 -- the test of rule 16 is the verdict's
-shape-told : (c : tie.After-shape-ok) → let a = c .before .before .before .before .before .args in shapePasses (now (a .node)) (now (a .cert)) (a .i) ≡ c .shape-ok .result
+shape-told : (c : tie.After-shape-ok) → let a = c .before .before .before .before .before .before .args in shapePasses (now (a .node)) (now (a .cert)) (a .i) ≡ c .shape-ok .result
 shape-told c =
-    let s = c .before .before .before .before .before in
-    sym (c .shape-ok .ensures ∙ shape-is _ _ _ (s .pre .0 .0) _ _ (c .before .block-at .ensures) (now (s .args .sorts)) (s .pre .0 .1))
+    let s = c .before .before .before .before .before .before in
+    sym (c .shape-ok .ensures ∙ shape-is _ _ _ (s .pre .0 .0) _ _ (c .before .before .block-at .ensures) _ (c .before .line-head .ensures) (now (s .args .sorts)) (s .pre .0 .1))
 
-shape-true : (c : tie.Else1) → let a = c .before .before .before .before .before .before .args in shapePasses (now (a .node)) (now (a .cert)) (a .i) ≡ true
+shape-true : (c : tie.Else1) → let a = c .before .before .before .before .before .before .before .args in shapePasses (now (a .node)) (now (a .cert)) (a .i) ≡ true
 shape-true c = shape-told (c .before) ∙ not-false _ (c .if1 .left)
 
 -- rule 16 has passed this line and those before it
-shapes : (c : tie.Else1) → let a = c .before .before .before .before .before .before .args in (j : ℕ) → j < a .i + 1 → shapePasses (now (a .node)) (now (a .cert)) j ≡ true
+shapes : (c : tie.Else1) → let a = c .before .before .before .before .before .before .before .args in (j : ℕ) → j < a .i + 1 → shapePasses (now (a .node)) (now (a .cert)) j ≡ true
 shapes c =
-    let s = c .before .before .before .before .before .before in
+    let s = c .before .before .before .before .before .before .before in
     below-more (λ (j : ℕ). shapePasses (now (s .args .node)) (now (s .args .cert)) j ≡ true) (s .args .i)
     (λ j l. line-kept (now (s .args .node)) (now (s .args .cert)) j (s .pre .1 .0 .1 j l) .0)
     (shape-true c)
@@ -47,9 +50,10 @@ returns c = (
 own-fault-requires : tie.Need-own-fault-requires
 own-fault-requires c κs =
     let shaped = c .before in
-    let here = shaped .before .before in
+    let read = shaped .before .before in
+    let here = read .before in
     let s = here .before .before .before .before in (
-      (s .pre .0 .0, here .block-at .ensures),
+      (s .pre .0 .0, here .block-at .ensures, read .line-head .ensures),
       ((shape-true shaped, lines-ready _ _ _ (s .pre .0 .0) _ (s .pre .1 .0 .0) (shapes shaped)), s .pre .1 .1),
     )
 
@@ -64,4 +68,4 @@ returns-2 c =
 pub line-fault-spec : {M : Type 1} → statement M
 line-fault-spec =
     tie.close
-    (tie.spec block-at-requires shape-ok-requires returns own-fault-requires same-length returns-2)
+    (tie.spec block-at-requires line-head-requires shape-ok-requires returns own-fault-requires same-length returns-2)

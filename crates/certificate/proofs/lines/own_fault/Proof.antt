@@ -14,28 +14,21 @@ use borrow.Author.Needs.{needs}
 use Rattle.certificate.proofs.lines.own_fault.Statement.{statement}
 use Rattle.certificate.proofs.lines.own_fault.Tie as tie
 
-line-head-requires : tie.Need-line-head-requires
-line-head-requires c κs = search needs
-
 -- the kind that was read is the line's
-kind-is : (c : tie.After-line-head) → let a = c .before .before .before .args in lineOf (now (a .cert)) (a .i) .head .kind ≡ c .line-head .result .kind
-kind-is c =
-    let s = c .before .before .before in
-    ap (λ (line : Line). line .head .kind) (sym (line-is _ _ _ (s .pre .0 .0) _ _ (s .pre .0 .1)))
-    ∙ ap (λ (h : LineHead). h .kind) (sym (c .line-head .ensures))
+kind-is : (s : tie.Start) → lineOf (now (s .args .cert)) (s .args .i) .head .kind ≡ s .args .h .kind
+kind-is s = ap (λ (line : Line). line .head .kind) (sym (line-is _ _ _ (s .pre .0 .0) _ _ (s .pre .0 .1) _ (s .pre .0 .2)))
 
 -- of the four kinds it is the last, where it is none of the others
-kind-4 : (c : tie.Else3) → let a = c .before .before .before .before .before .before .args in lineOf (now (a .cert)) (a .i) .head .kind ≡ 4
+kind-4 : (c : tie.Else3) → let a = c .before .before .before .before .before .args in lineOf (now (a .cert)) (a .i) .head .kind ≡ 4
 kind-4 c =
-    let read = c .before .before .before in
-    let s = read .before .before .before in
+    let s = c .before .before .before .before .before in
     let shape = line-shape _ _ _ (s .pre .0 .0) _ _ (s .pre .0 .1) (s .pre .1 .0 .0) in
     omega (
       arith,
       shape .least,
       shape .most,
-      kind-is read,
-      ap (λ (h : LineHead). h .kind) (read .line-head .ensures),
+      kind-is s,
+      ap (λ (h : LineHead). h .kind) (s .pre .0 .2),
       c .if3 .left,
       c .before .if2 .left,
       c .before .before .if1 .left,
@@ -50,15 +43,15 @@ unless-requires c κs = search needs
 returns : tie.Need-returns
 returns c =
     let one = c .before .before in
-    let s = one .before .before .before .before in (
+    let s = one .before .before .before in (
       c .unless .ensures
-          ∙ ap (λ (b : Bool). cond b 0 17) (c .before .equation-passes .ensures ∙ equation-is _ _ _ (s .pre .0 .0) _ _ (s .pre .0 .1))
-          ∙ sym (fault-1 _ _ _ _ _ (kind-is (one .before) ∙ one .if1 .taken)),
+          ∙ ap (λ (b : Bool). cond b 0 17) (c .before .equation-passes .ensures ∙ equation-is _ _ _ (s .pre .0 .0) _ _ (s .pre .0 .1) _ (s .pre .0 .2))
+          ∙ sym (fault-1 _ _ _ _ _ (kind-is s ∙ one .if1 .taken)),
       λ e. s .pre .1 .1,
     )
 
 property-passes-requires : tie.Need-property-passes-requires
-property-passes-requires c κs = (search needs, deep _ _ _ (c .before .before .before .before .before .pre .0 .0))
+property-passes-requires c κs = (search needs, deep _ _ _ (c .before .before .before .before .pre .0 .0))
 
 unless-requires-2 : tie.Need-unless-requires-2
 unless-requires-2 c κs = search needs
@@ -66,10 +59,10 @@ unless-requires-2 c κs = search needs
 returns-2 : tie.Need-returns-2
 returns-2 c =
     let two = c .before .before in
-    let s = two .before .before .before .before .before in (
+    let s = two .before .before .before .before in (
       c .unless2 .ensures
-          ∙ ap (λ (b : Bool). cond b 0 18) (c .before .property-passes .ensures ∙ property-is _ _ _ (s .pre .0 .0) _ _ (s .pre .0 .1))
-          ∙ sym (fault-2 _ _ _ _ _ (kind-is (two .before .before) ∙ two .if2 .taken)),
+          ∙ ap (λ (b : Bool). cond b 0 18) (c .before .property-passes .ensures ∙ property-is _ _ _ (s .pre .0 .0) _ _ (s .pre .0 .1) _ (s .pre .0 .2))
+          ∙ sym (fault-2 _ _ _ _ _ (kind-is s ∙ two .if2 .taken)),
       λ e. s .pre .1 .1,
     )
 
@@ -82,17 +75,21 @@ unless-requires-3 c κs = search needs
 returns-3 : tie.Need-returns-3
 returns-3 c =
     let three = c .before .before in
-    let s = three .before .before .before .before .before .before in (
+    let s = three .before .before .before .before .before in (
       c .unless3 .ensures
           ∙ ap (λ (b : Bool). cond b 0 19) (c .before .join-passes .ensures ∙ join-is _ _ _ (s .pre .0 .0) _)
-          ∙ sym (fault-3 _ _ _ _ _ (kind-is (three .before .before .before) ∙ three .if3 .taken)),
+          ∙ sym (fault-3 _ _ _ _ _ (kind-is s ∙ three .if3 .taken)),
       λ e. s .pre .1 .1,
     )
+
+cast-arithmetic-ok : tie.Need-cast-arithmetic-ok
+cast-arithmetic-ok c = search needs
 
 arithmetic-ok-requires : tie.Need-arithmetic-ok-requires
 arithmetic-ok-requires c κs =
     let s = c .before .before .before .before .before .before .before in
-    (line-checkable _ _ _ (s .pre .0 .0) _ _ (s .pre .0 .1) (omega (arith, s .pre .1 .0 .1 .room)) (s .pre .1 .0 .0), s .pre .1 .1)
+    let checkable = line-checkable _ _ _ (s .pre .0 .0) _ _ (s .pre .0 .1) (omega (arith, s .pre .1 .0 .1 .room)) (s .pre .1 .0 .0) in
+    ((checkable, ap (λ (h : LineHead). h .count) (s .pre .0 .2)), s .pre .1 .1)
 
 unless-requires-4 : tie.Need-unless-requires-4
 unless-requires-4 c κs = search needs
@@ -111,7 +108,7 @@ returns-4 c =
     let s = summed .before .before .before .before .before .before .before .before in (
       c .unless4 .ensures
           ∙ ap (λ (b : Bool). cond b 0 20) (summed .arithmetic-ok .ensures .0 ∙ arithmetic-is _ _ _ (s .pre .0 .0) _ _ (s .pre .0 .1))
-          ∙ sym (fault-4 _ _ _ _ _ (kind-4 (summed .before .before))),
+          ∙ sym (fault-4 _ _ _ _ _ (kind-4 (summed .before .before .before))),
       λ e.
           summed .arithmetic-ok .ensures .1
           ∙ passed-clear _ _ (sym (summed .arithmetic-ok .ensures .0) ∙ holds _ (sym (c .unless4 .ensures) ∙ e)),
@@ -121,7 +118,6 @@ pub own-fault-spec : {M : Type 1} → statement M
 own-fault-spec =
     tie.close
     (tie.spec
-    line-head-requires
     equation-passes-requires
     unless-requires
     returns
@@ -131,6 +127,7 @@ own-fault-spec =
     join-passes-requires
     unless-requires-3
     returns-3
+    cast-arithmetic-ok
     arithmetic-ok-requires
     unless-requires-4
     same-length
