@@ -8,7 +8,7 @@ use Prim.Native.Nat.{ℕ, _+_, _*_, _<_, _≤_}
 use native.Mathlib.Omega.{arith}
 use lib.ListN.{length}
 use Rattle.node.specs.Equations.{kindAt, equationAt}
-use Rattle.node.specs.Layout.{streamsOf, recordsOf}
+use Rattle.node.specs.Layout.{streamsOf, propertyOf, recordsOf}
 use Rattle.node.proofs.FileRules.{sizes}
 use Rattle.constraints.specs.declared.layout.LineHead.{LineHead}
 use Rattle.constraints.specs.Layout.{Line, trailerOf, lineHeadAt, lineAt, lineOf, constraintOf}
@@ -19,6 +19,7 @@ use Rattle.rules.specs.Lines.{equationIn, shapeOk}
 use Rattle.rules.specs.Verdict.{sortsOfNode, shapePasses, equationPasses, propertyPasses, joinPasses, arithmeticPasses}
 use Rattle.rules.proofs.ConstraintLimits.{Few, limited}
 use Rattle.rules.proofs.CertificateFacts.{few-streams}
+use Rattle.rules.proofs.LineParts.{from-is}
 use Rattle.rules.proofs.ShapeFacts.{ShapeFacts, shape-facts}
 use Rattle.certificate.specs.declared.frame.Frame.{Frame}
 use Rattle.certificate.specs.Content.{Readable}
@@ -66,8 +67,10 @@ module _ (node cert : List ℕ) (f : Frame) (ch : Checking node cert f) where
   lines : linesAt cert (f .lines) ≡ lineOf cert
   lines = lines-are cert f _ _ (ch .frame)
 
-  pub join-is : (i : ℕ) → joinOk (linesAt cert (f .lines)) (partIn f 0 i .from) i ≡ joinPasses cert i
-  join-is i = ap₂ (λ (g : Frame) (of : ℕ → Line). joinOk of (partIn g 0 i .from) i) (ch .frame) lines
+  pub join-is : (i : ℕ) → joinOk (linesAt cert (f .lines)) (partIn f i .from) i ≡ joinPasses cert i
+  join-is i =
+      ap₂ (λ (g : Frame) (of : ℕ → Line). joinOk of (partIn g i .from) i) (ch .frame) lines
+      ∙ ap (λ (from : ℕ). joinOk (lineOf cert) from i) (from-is cert (propertyOf node) i)
 
   -- line i, which stands at an offset
   module _ (i at : ℕ) (e : at ≡ f .lines + 80 * i) where
@@ -97,14 +100,14 @@ module _ (node cert : List ℕ) (f : Frame) (ch : Checking node cert f) where
           ap₂ (λ (g : Frame) (line : Line). shapeOk (sortsOf sorts) (g .depth) (g .constraints) line) (ch .frame) line-is
           ∙ ap (λ (of : Sorts). shapeOk of (trailerOf cert .depth) (trailerOf cert .constraints) (lineOf cert i)) (fun-ext sorted)
 
-      pub equation-is : equationIn (f .streams) (kindAt node) (equationAt node) (constraintsFrom cert (f .start)) (f .constraints) (partIn f (f .property) i .offsets) (partIn f (f .property) i .opening) (lineWith cert at h) ≡ equationPasses node cert i
+      pub equation-is : equationIn (f .streams) (kindAt node) (equationAt node) (constraintsFrom cert (f .start)) (f .constraints) (partIn f i .offsets) (partIn f i .opening) (lineWith cert at h) ≡ equationPasses node cert i
       equation-is =
           ap₂
-          (λ (g : Frame) (line : Line). equationIn (g .streams) (kindAt node) (equationAt node) (constraintsFrom cert (g .start)) (g .constraints) (partIn g (g .property) i .offsets) (partIn g (g .property) i .opening) line)
+          (λ (g : Frame) (line : Line). equationIn (g .streams) (kindAt node) (equationAt node) (constraintsFrom cert (g .start)) (g .constraints) (partIn g i .offsets) (partIn g i .opening) line)
           (ch .frame) line-is
 
-      pub property-is : partIn f (f .property) i .property (lineWith cert at h) ≡ propertyPasses node cert i
-      property-is = ap₂ (λ (g : Frame) (line : Line). partIn g (g .property) i .property line) (ch .frame) line-is
+      pub property-is : partIn f i .property (lineWith cert at h) ≡ propertyPasses node cert i
+      property-is = ap₂ (λ (g : Frame) (line : Line). partIn g i .property line) (ch .frame) line-is
 
   -- lines 0 to i, each of which has passed rule 16
   pub lines-ready : (i : ℕ) → i < f .base + f .step → ((j : ℕ) → j < i + 1 → shapePasses node cert j ≡ true) → LinesReady cert (f .lines) i

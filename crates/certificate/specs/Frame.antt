@@ -22,7 +22,7 @@ frameOf cert streams property =
       property = property;
     }
 
--- the part that line i stands in, for a property stream
-abbrev pub partIn : Frame → (property i : ℕ) → Window
-partIn f property i =
-    cond (ltb i (f .base)) (baseWindow (f .depth) property (f .base)) (stepWindow (f .depth) property (f .base) (f .step))
+-- the part that line i stands in
+abbrev pub partIn : Frame → (i : ℕ) → Window
+partIn f i =
+    cond (ltb i (f .base)) (baseWindow (f .depth) (f .property) (f .base)) (stepWindow (f .depth) (f .property) (f .base) (f .step))

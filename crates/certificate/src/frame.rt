@@ -39,6 +39,7 @@ pub fn start_of(cert: &[u8], t: Trailer) -> usize
     cert.len() - (16 + 80 * (constraints + base + step))
 }
 
+// What was read of both files, where rules 11 to 15 have passed.
 pub fn frame_of(cert: &[u8], t: Trailer, streams: usize, property: u16) -> Frame
     requires { ⌜ (t ≡ trailerOf (now cert)) × (sizeOf (trailerOf (now cert)) ≤ length (now cert)) ⌝ }
     ensures { λ r. ⌜ r ≡ frameOf (now (cert .entry)) streams property ⌝ }

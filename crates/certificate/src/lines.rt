@@ -30,7 +30,7 @@ ghost use Rattle.certificate.specs.Sums.{constraintsFrom};
 // Rule 17, of line i, which stands at an offset and has this head.
 fn equation_passes(node: &[u8], cert: &[u8], f: Frame, at: usize, h: LineHead, i: usize) -> bool
     requires { ⌜ Checking (now node) (now cert) f × (at + 80 ≤ length (now cert)) ⌝ }
-    ensures { λ r. ⌜ r ≡ equationIn (f .streams) (kindAt (now (node .entry))) (equationAt (now (node .entry))) (constraintsFrom (now (cert .entry)) (f .start)) (f .constraints) (partIn f (f .property) i .offsets) (partIn f (f .property) i .opening) (lineWith (now (cert .entry)) at h) ⌝ }
+    ensures { λ r. ⌜ r ≡ equationIn (f .streams) (kindAt (now (node .entry))) (equationAt (now (node .entry))) (constraintsFrom (now (cert .entry)) (f .start)) (f .constraints) (partIn f i .offsets) (partIn f i .opening) (lineWith (now (cert .entry)) at h) ⌝ }
 {
     let depth = f.depth as usize;
     if i < f.base {
@@ -43,7 +43,7 @@ fn equation_passes(node: &[u8], cert: &[u8], f: Frame, at: usize, h: LineHead, i
 // Rule 18, of line i, which stands at an offset and has this head.
 fn property_passes(cert: &[u8], f: Frame, at: usize, h: LineHead, i: usize) -> bool
     requires { ⌜ (at + 80 ≤ length (now cert)) × (f .depth ≤ 8) ⌝ }
-    ensures { λ r. ⌜ r ≡ partIn f (f .property) i .property (lineWith (now (cert .entry)) at h) ⌝ }
+    ensures { λ r. ⌜ r ≡ partIn f i .property (lineWith (now (cert .entry)) at h) ⌝ }
 {
     if i < f.base {
         base_property_ok(cert, at, h, f.depth, f.property)
@@ -55,7 +55,7 @@ fn property_passes(cert: &[u8], f: Frame, at: usize, h: LineHead, i: usize) -> b
 // Rule 19, of line i.
 fn join_passes(cert: &[u8], f: Frame, i: usize) -> bool
     requires { ⌜ LinesReady (now cert) (f .lines) i ⌝ }
-    ensures { λ r. ⌜ r ≡ joinOk (linesAt (now (cert .entry)) (f .lines)) (partIn f 0 i .from) i ⌝ }
+    ensures { λ r. ⌜ r ≡ joinOk (linesAt (now (cert .entry)) (f .lines)) (partIn f i .from) i ⌝ }
 {
     if i < f.base {
         join_ok(cert, f.lines, 0, i)
