@@ -8,7 +8,6 @@ pub mod NodeFacts
 pub mod Openings
 pub mod PartFacts
 pub mod Saying
-pub mod Settings
 pub mod SlotHalves
 pub mod Standing
 pub mod Turns

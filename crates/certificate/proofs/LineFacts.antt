@@ -1,56 +1,54 @@
--- A line that passes rule 16 in a file that passes rules 11 to 15 gives the rules after it what they ask.
+-- What was read of both files before the lines are checked, put to use: each line's rule as the verdict has it, and what a line that
+-- passes rule 16 gives the rules after it.
 -- Assumes nothing.
-use mathlib.Core.Path.{_≡_, sym, _∙_, ap, ap₂, subst}
+use mathlib.Core.Path.{_≡_, refl, sym, _∙_, ap, ap₂, fun-ext}
 use mathlib.Core.Bool.{true}
 use mathlib.Core.List.{List}
 use Prim.Native.Nat.{ℕ, _+_, _*_, _<_, _≤_}
 use native.Mathlib.Omega.{arith}
+use lib.ListN.{length}
 use Rattle.node.specs.Equations.{kindAt, equationAt}
 use Rattle.node.specs.Layout.{streamsOf, propertyOf, recordsOf}
 use Rattle.node.proofs.FileRules.{sizes}
-use Rattle.constraints.specs.declared.layout.Trailer.{Trailer}
-use Rattle.constraints.specs.Layout.{Line, trailerOf, startOf, constraintOf, lineAt, lineOf}
-use Rattle.rules.specs.declared.pattern.Place.the-variants.{Opening, Unsure}
-use Rattle.rules.specs.Lines.{Window, equationIn}
-use Rattle.rules.specs.Verdict.{sortsOfNode, partOf, shapePasses, equationPasses}
+use Rattle.constraints.specs.declared.layout.LineHead.{LineHead}
+use Rattle.constraints.specs.Layout.{Line, trailerOf, lineHeadAt, lineAt, lineOf, constraintOf}
+use Rattle.constraints.specs.Rules.{Sorts, sortsOf}
+use Rattle.rules.specs.Arithmetic.{arithmeticOk}
+use Rattle.rules.specs.Joins.{joinOk}
+use Rattle.rules.specs.Lines.{equationIn, shapeOk}
+use Rattle.rules.specs.Verdict.{sortsOfNode, shapePasses, equationPasses, propertyPasses, joinPasses, arithmeticPasses}
 use Rattle.rules.proofs.ConstraintLimits.{Few, limited}
 use Rattle.rules.proofs.CertificateFacts.{few-streams}
-use Rattle.rules.proofs.LineParts.{part-base, part-step}
+use Rattle.rules.proofs.LineParts.{from-is}
 use Rattle.rules.proofs.ShapeFacts.{ShapeFacts, shape-facts}
+use Rattle.certificate.specs.declared.frame.Frame.{Frame}
 use Rattle.certificate.specs.Content.{Readable}
 use Rattle.certificate.specs.Checkable.{Checkable}
+use Rattle.certificate.specs.Checking.{Checking}
+use Rattle.certificate.specs.Constants.{ConstantsLimited}
+use Rattle.certificate.specs.Frame.{frameOf, partIn}
+use Rattle.certificate.specs.Ready.{lineWith, linesAt, LinesReady}
 use Rattle.certificate.specs.Sums.{constraintsFrom}
 use Rattle.certificate.proofs.Checkables.{checkable}
-use Rattle.certificate.specs.Checking.{Checking, linesStart}
-use Rattle.certificate.specs.Constants.{ConstantsLimited}
-use Rattle.certificate.specs.Ready.{linesAt, LinesReady}
 use Rattle.certificate.proofs.NodeFacts.{constants-limited}
-use Rattle.certificate.proofs.Settings.{line-fits, line-is}
 
-module _ (node cert sorts : List ℕ) (t : Trailer) (n property : ℕ) (ch : Checking node cert sorts t n property) where
+-- the lines of a frame are the file's
+pub lines-are : (cert : List ℕ) (f : Frame) (n property : ℕ) → f ≡ frameOf cert n property → linesAt cert (f .lines) ≡ lineOf cert
+lines-are cert f n property e = rw e (fun-ext λ i. ap (lineAt cert) (omega arith))
+
+module _ (node cert : List ℕ) (f : Frame) (ch : Checking node cert f) where
   few : Few (sortsOfNode node)
   few = few-streams node (streamsOf node) (sizes node (ch .node-rules .file) .few)
 
-  pub line-shape : (i : ℕ) → shapePasses node cert i ≡ true → ShapeFacts (sortsOfNode node) (trailerOf cert .depth) (trailerOf cert .constraints) (linesAt cert (linesStart cert) i)
-  unfolding shapePasses
-  line-shape i e =
-      subst (ShapeFacts (sortsOfNode node) (trailerOf cert .depth) (trailerOf cert .constraints)) (line-is cert i)
-      (shape-facts (sortsOfNode node) (trailerOf cert .depth) (trailerOf cert .constraints) (lineOf cert i) e)
+  pub framed : f ≡ frameOf cert (f .streams) (f .property)
+  framed = rw (ch .frame)
 
-  pub line-checkable : (i : ℕ) → i < trailerOf cert .base + trailerOf cert .step → shapePasses node cert i ≡ true → Checkable cert (startOf cert) (linesStart cert + 80 * i)
-  line-checkable i l e =
-      let f = line-shape i e in
-      checkable (sortsOfNode node) few cert (ch .ready) (linesStart cert + 80 * i)
-      (omega (arith, line-fits cert (ch .ready .room) i l)) (f .count) (f .multipliers) (f .atoms)
+  pub deep : f .depth ≤ 8
+  deep = rw (ch .frame) (ch .ready .deep)
 
-  -- lines 0 to i, each of which has passed rule 16
-  pub lines-ready : (i : ℕ) → i < trailerOf cert .base + trailerOf cert .step → ((j : ℕ) → j < i + 1 → shapePasses node cert j ≡ true) → LinesReady cert (linesStart cert) i
-  lines-ready i l passed =
-      record { room = line-fits cert (ch .ready .room) i l; counts = λ j m. line-shape j (passed j m) .count }
-
-  pub readable : Readable cert (startOf cert) (t .constraints)
+  pub readable : Readable cert (f .start) (f .constraints)
   readable =
-      rw (ch .trailer)
+      rw (ch .frame)
       (record {
         room = omega (arith, ch .ready .room);
         counts =
@@ -58,27 +56,60 @@ module _ (node cert sorts : List ℕ) (t : Trailer) (n property : ℕ) (ch : Che
             limited (sortsOfNode node) few (trailerOf cert .depth) (ch .ready .deep) (constraintOf cert i) (ch .ready .constraints i l) .few;
       })
 
-  pub constants : ConstantsLimited node n
-  constants = rw (ch .streams) (constants-limited node (ch .node-rules))
+  -- what the clauses of a stream ask of the node, up to offset k
+  pub node-read : (offsets : ℕ) → offsets ≤ f .depth + 1 → ConstantsLimited node (f .streams) × (offsets ≤ 9) × (f .streams ≡ recordsOf node)
+  node-read offsets l = (
+    rw (ch .frame) (constants-limited node (ch .node-rules)),
+    omega (arith, deep),
+    rw (ch .frame) (sym (sizes node (ch .node-rules .file) .records)),
+  )
 
-  -- the count that was read is that of the records
-  pub counted : n ≡ recordsOf node
-  counted = ch .streams ∙ sym (sizes node (ch .node-rules .file) .records)
+  lines : linesAt cert (f .lines) ≡ lineOf cert
+  lines = lines-are cert f _ _ (ch .frame)
 
-  -- rule 17 in the part that a line stands in
-  equation-in : (w : Window) (i start lines : ℕ) → partOf cert (propertyOf node) i ≡ w → start ≡ startOf cert → lines ≡ linesStart cert → equationIn n (kindAt node) (equationAt node) (constraintsFrom cert start) (t .constraints) (w .offsets) (w .opening) (lineAt cert (lines + 80 * i)) ≡ equationPasses node cert i
-  equation-in w i start lines e f g =
-      rw (f, g, ch .streams, ch .trailer)
-      (ap₂
-      (λ (v : Window) (line : Line). equationIn (streamsOf node) (kindAt node) (equationAt node) (constraintOf cert) (trailerOf cert .constraints) (v .offsets) (v .opening) line)
-      (sym e) (sym (line-is cert i)))
+  pub join-is : (i : ℕ) → joinOk (linesAt cert (f .lines)) (partIn f i .from) i ≡ joinPasses cert i
+  join-is i =
+      ap₂ (λ (g : Frame) (of : ℕ → Line). joinOk of (partIn g i .from) i) (ch .frame) lines
+      ∙ ap (λ (from : ℕ). joinOk (lineOf cert) from i) (from-is cert (propertyOf node) i)
 
-  pub equation-base : (i start lines : ℕ) → i < t .base → start ≡ startOf cert → lines ≡ linesStart cert → equationIn n (kindAt node) (equationAt node) (constraintsFrom cert start) (t .constraints) (t .depth) Opening (lineAt cert (lines + 80 * i)) ≡ equationPasses node cert i
-  equation-base i start lines l f g =
-      ap (λ (u : Trailer). equationIn n (kindAt node) (equationAt node) (constraintsFrom cert start) (t .constraints) (u .depth) Opening (lineAt cert (lines + 80 * i))) (ch .trailer)
-      ∙ equation-in _ i start lines (part-base cert (propertyOf node) i (rw (ch .trailer) at l)) f g
+  -- line i, which stands at an offset
+  module _ (i at : ℕ) (e : at ≡ f .lines + 80 * i) where
+    line-here : lineAt cert at ≡ lineOf cert i
+    line-here = ap (lineAt cert) e ∙ ap (λ (of : ℕ → Line). of i) lines
 
-  pub equation-step : (i start lines : ℕ) → t .base ≤ i → start ≡ startOf cert → lines ≡ linesStart cert → equationIn n (kindAt node) (equationAt node) (constraintsFrom cert start) (t .constraints) (t .depth + 1) Unsure (lineAt cert (lines + 80 * i)) ≡ equationPasses node cert i
-  equation-step i start lines l f g =
-      ap (λ (u : Trailer). equationIn n (kindAt node) (equationAt node) (constraintsFrom cert start) (t .constraints) (u .depth + 1) Unsure (lineAt cert (lines + 80 * i))) (ch .trailer)
-      ∙ equation-in _ i start lines (part-step cert (propertyOf node) i (rw (ch .trailer) at l)) f g
+    pub arithmetic-is : arithmeticOk (constraintsFrom cert (f .start)) (lineAt cert at) ≡ arithmeticPasses cert i
+    arithmetic-is = ap₂ (λ (g : Frame) (line : Line). arithmeticOk (constraintsFrom cert (g .start)) line) (ch .frame) line-here
+
+    pub line-shape : shapePasses node cert i ≡ true → ShapeFacts (sortsOfNode node) (trailerOf cert .depth) (trailerOf cert .constraints) (lineAt cert at)
+    unfolding shapePasses
+    line-shape passed = rw line-here (shape-facts (sortsOfNode node) (trailerOf cert .depth) (trailerOf cert .constraints) (lineOf cert i) passed)
+
+    pub line-checkable : at + 80 ≤ length cert → shapePasses node cert i ≡ true → Checkable cert (f .start) at
+    line-checkable room passed =
+        let shape = line-shape passed in
+        rw (ch .frame) (checkable (sortsOfNode node) few cert (ch .ready) at room (shape .count) (shape .multipliers) (shape .atoms))
+
+    -- .. and whose head was read
+    module _ (h : LineHead) (g : h ≡ lineHeadAt cert at) where
+      pub line-is : lineWith cert at h ≡ lineOf cert i
+      line-is = ap (lineWith cert at) g ∙ line-here
+
+      pub shape-is : (sorts : List ℕ) → ((x : ℕ) → sortsOf sorts x ≡ sortsOfNode node x) → shapeOk (sortsOf sorts) (f .depth) (f .constraints) (lineWith cert at h) ≡ shapePasses node cert i
+      unfolding shapePasses
+      shape-is sorts sorted =
+          ap₂ (λ (g : Frame) (line : Line). shapeOk (sortsOf sorts) (g .depth) (g .constraints) line) (ch .frame) line-is
+          ∙ ap (λ (of : Sorts). shapeOk of (trailerOf cert .depth) (trailerOf cert .constraints) (lineOf cert i)) (fun-ext sorted)
+
+      pub equation-is : equationIn (f .streams) (kindAt node) (equationAt node) (constraintsFrom cert (f .start)) (f .constraints) (partIn f i .offsets) (partIn f i .opening) (lineWith cert at h) ≡ equationPasses node cert i
+      equation-is =
+          ap₂
+          (λ (g : Frame) (line : Line). equationIn (g .streams) (kindAt node) (equationAt node) (constraintsFrom cert (g .start)) (g .constraints) (partIn g i .offsets) (partIn g i .opening) line)
+          (ch .frame) line-is
+
+      pub property-is : partIn f i .property (lineWith cert at h) ≡ propertyPasses node cert i
+      property-is = ap₂ (λ (g : Frame) (line : Line). partIn g i .property line) (ch .frame) line-is
+
+  -- lines 0 to i, each of which has passed rule 16
+  pub lines-ready : (i : ℕ) → i < f .base + f .step → ((j : ℕ) → j < i + 1 → shapePasses node cert j ≡ true) → LinesReady cert (f .lines) i
+  lines-ready i l passed =
+      record { room = omega (arith, ch .room); counts = λ j m. line-shape j (f .lines + 80 * j) refl (passed j m) .count }

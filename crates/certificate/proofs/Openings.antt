@@ -1,6 +1,6 @@
 -- What rules 1 to 8 and 11 to 15 leave, put together for the checks of lines.
 -- Assumes nothing.
-use mathlib.Core.Path.{_≡_, refl, sym, _∙_, ap, fun-ext}
+use mathlib.Core.Path.{_≡_, refl, sym, _∙_, ap, ap₂, fun-ext}
 use mathlib.Core.List.{List}
 use Prim.Native.Nat.{ℕ, _≤_, _+_, _*_}
 use native.Mathlib.Omega.{arith}
@@ -14,13 +14,16 @@ use Rattle.node.proofs.FileRules.{sizes}
 use Rattle.node.proofs.Outcomes.{accepted-keeps, accepted-values}
 use Rattle.constraints.specs.declared.layout.Trailer.{Trailer}
 use Rattle.constraints.specs.Layout.{trailerOf, sizeOf, startOf}
+use Rattle.constraints.specs.Ready.{Ready}
 use Rattle.constraints.specs.Rules.{Sorts, sortsOf, constraintPasses as passesFrom}
 use Rattle.rules.specs.Sorts.{sortsBelow}
 use Rattle.rules.specs.Verdict.{sortsOfNode, constraintPasses, fileVerdict}
 use Rattle.rules.proofs.FileFacts.{FileFacts, file-facts, file-passed}
 use Rattle.rules.proofs.Outcomes.{file-opens}
+use Rattle.certificate.specs.declared.frame.Frame.{Frame}
 use Rattle.certificate.specs.declared.reading.Opened.the-variants.{Passed, Refused}
 use Rattle.certificate.specs.Checking.{NodePassed, FilePassed, Checking, openingOf}
+use Rattle.certificate.specs.Frame.{frameOf}
 
 -- an accepted node file, from the values that its answer carries
 pub node-passed : (node : List ℕ) (n property : ℕ) → nodeVerdict node ≡ accepted (record { streams = n; property = property }) → NodePassed node n property
@@ -66,20 +69,24 @@ pub unopened : (t : Trailer) (a : Answer (Unit {0})) (number : ℕ) (place : Pla
 unopened t (accepted v) number place e = let z : _≡_ {A = ℕ} 0 1 = cc in absurd (omega arith)
 unopened t (refused m at) number place e = cc
 
-module _ (node cert sorts : List ℕ) (t : Trailer) (n property : ℕ) (of-node : NodePassed node n property) (sorted : (x : ℕ) → sortsOf sorts x ≡ sortsOfNode node x) (e : Passed t ≡ openingOf (trailerOf cert) (fileVerdict node cert)) where
+module _ (node cert : List ℕ) (t : Trailer) (n property : ℕ) (of-node : NodePassed node n property) (e : Passed t ≡ openingOf (trailerOf cert) (fileVerdict node cert)) where
   pub file-accepted : fileVerdict node cert ≡ accepted tt
   file-accepted = opened t (trailerOf cert) (fileVerdict node cert) e .0
 
-  pub checking : Checking node cert sorts t n property
-  checking =
+  ready : Ready (sortsOfNode node) cert
+  ready =
       let b = file-opens node cert (of-node .node-rules) file-accepted in
       let f = file-facts cert (file-passed cert (b .file .size) (b .file .fixed) (b .file .counts) (b .file .distance)) in
+      record { room = f .room; most = f .most; least = f .some; deep = f .deep; few = f .few; constraints = b .constraints }
+
+  pub frame-room : (t ≡ trailerOf cert) × (sizeOf (trailerOf cert) ≤ length cert)
+  frame-room = (opened t (trailerOf cert) (fileVerdict node cert) e .1, ready .room)
+
+  pub checking : (f : Frame) → f ≡ frameOf cert n property → Checking node cert f
+  checking f g =
       record {
-        trailer = opened t (trailerOf cert) (fileVerdict node cert) e .1;
-        streams = of-node .streams;
-        property-is = of-node .property-is;
+        frame = g ∙ ap₂ (frameOf cert) (of-node .streams) (of-node .property-is);
+        room = rw g (omega (arith, ready .room));
         node-rules = of-node .node-rules;
-        sorted = sorted;
-        ready =
-            record { room = f .room; most = f .most; least = f .some; deep = f .deep; few = f .few; constraints = b .constraints };
+        ready = ready;
       }

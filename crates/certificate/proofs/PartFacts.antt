@@ -6,23 +6,28 @@ use mathlib.Core.List.{List}
 use Prim.Native.Nat.{ℕ}
 use native.Mathlib.Nat.{sub-zero, add-sub-cancel-left}
 use Rattle.answers.specs.Checks.{every}
-use Rattle.constraints.specs.Layout.{Line, lineOf}
-use Rattle.rules.specs.Lines.{hasLiterals, hasEmpty, baseWindow, stepWindow}
-use Rattle.certificate.specs.Checking.{linesStart}
+use Rattle.constraints.specs.Layout.{Line, trailerOf, lineOf}
+use Rattle.rules.specs.Lines.{hasLiterals, hasEmpty}
+use Rattle.rules.specs.Verdict.{baseOf, stepOf}
+use Rattle.certificate.specs.declared.frame.Frame.{Frame}
+use Rattle.certificate.specs.Frame.{frameOf}
 use Rattle.certificate.specs.Ready.{linesAt}
-use Rattle.certificate.proofs.Settings.{lines-are}
+use Rattle.certificate.proofs.LineFacts.{lines-are}
 
 -- n lines from `from` on have an empty one among them
 abbrev emptyAmong : (ℕ → Line) → (from n : ℕ) → Bool
 emptyAmong lines from n = not (every (hasLiterals lines from) n)
 
-module _ (cert : List ℕ) (lines : ℕ) (e : lines ≡ linesStart cert) where
-  same-lines : linesAt cert lines ≡ lineOf cert
-  same-lines = ap (linesAt cert) e ∙ sym (lines-are cert)
+module _ (cert : List ℕ) (f : Frame) (e : f ≡ frameOf cert (f .streams) (f .property)) (node : List ℕ) where
+  lines : linesAt cert (f .lines) ≡ lineOf cert
+  lines = lines-are cert f _ _ e
 
-  pub empty-base : (k property base : ℕ) → emptyAmong (linesAt cert lines) 0 base ≡ hasEmpty (lineOf cert) (baseWindow k property base)
-  empty-base k property base = ap₂ (λ (f : ℕ → Line) (n : ℕ). emptyAmong f 0 n) same-lines (sym (sub-zero base))
+  pub empty-base : emptyAmong (linesAt cert (f .lines)) 0 (f .base) ≡ hasEmpty (lineOf cert) (baseOf node cert)
+  empty-base =
+      ap₂ (λ (of : ℕ → Line) (g : Frame). emptyAmong of 0 (g .base)) lines e
+      ∙ ap (emptyAmong (lineOf cert) 0) (sym (sub-zero (trailerOf cert .base)))
 
-  pub empty-step : (k property base step : ℕ) → emptyAmong (linesAt cert lines) base step ≡ hasEmpty (lineOf cert) (stepWindow k property base step)
-  empty-step k property base step =
-      ap₂ (λ (f : ℕ → Line) (n : ℕ). emptyAmong f base n) same-lines (sym (add-sub-cancel-left base step))
+  pub empty-step : emptyAmong (linesAt cert (f .lines)) (f .base) (f .step) ≡ hasEmpty (lineOf cert) (stepOf node cert)
+  empty-step =
+      ap₂ (λ (of : ℕ → Line) (g : Frame). emptyAmong of (g .base) (g .step)) lines e
+      ∙ ap (emptyAmong (lineOf cert) (trailerOf cert .base)) (sym (add-sub-cancel-left (trailerOf cert .base) (trailerOf cert .step)))

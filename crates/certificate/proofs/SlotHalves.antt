@@ -68,11 +68,13 @@ module _ (sorts : Sorts) (k m kind count : ℕ) (literal multiplier : ℕ → �
       let both : every unused 12 ≡ (every listed count && every unused 12) = rw e in
       both ∙ halves few
 
--- the head that was read is the line's
-module _ (sorts : Sorts) (k m : ℕ) (line : Line) (h : LineHead) (e : h ≡ line .head) where
+module _ (sorts : Sorts) (k m : ℕ) (line : Line) where
+  abbrev h : LineHead
+  h = line .head
+
   pub shape-many : 12 < h .count → false ≡ shapeOk sorts k m line
   unfolding shapeOk
-  shape-many l = rw (← e, lt-leb (h .count) 12 l, and-false (leb 1 (h .kind) && leb (h .kind) 4))
+  shape-many l = rw (lt-leb (h .count) 12 l, and-false (leb 1 (h .kind) && leb (h .kind) 4))
 
   abbrev numbers : Bool
   numbers = leb 1 (h .kind) && leb (h .kind) 4 && numbersOk h
@@ -82,7 +84,7 @@ module _ (sorts : Sorts) (k m : ℕ) (line : Line) (h : LineHead) (e : h ≡ lin
 
   few-is : h .count ≤ 12 → (numbers && slots) ≡ shapeOk sorts k m line
   unfolding shapeOk
-  few-is l = rw (← e, le-leb (h .count) 12 l, and-true (leb 1 (h .kind) && leb (h .kind) 4))
+  few-is l = rw (le-leb (h .count) 12 l, and-true (leb 1 (h .kind) && leb (h .kind) 4))
 
   pub shape-missed : h .count ≤ 12 → numbers ≡ false → false ≡ shapeOk sorts k m line
   shape-missed l f = sym (sym (few-is l) ∙ rw f)

@@ -1,23 +1,21 @@
 -- What the checks of lines count on: rules 1 to 8 and 11 to 15 have passed, and what was read of them is at hand.
-use Prim.Native.Nat.{ℕ, _+_, _*_}
+use Prim.Native.Nat.{ℕ, _+_, _*_, _≤_}
 use mathlib.Core.Path.{_≡_}
 use mathlib.Core.Bool.{true}
 use mathlib.Core.List.{List}
+use lib.ListN.{length}
 use Rattle.node.specs.Layout.{streamsOf, propertyOf}
 use Rattle.node.specs.Outcome.{NodeRules}
 use Rattle.constraints.specs.declared.layout.Trailer.{Trailer}
-use Rattle.constraints.specs.Layout.{trailerOf, startOf}
+use Rattle.constraints.specs.Layout.{trailerOf}
 use Rattle.constraints.specs.Ready.{Ready}
-use Rattle.constraints.specs.Rules.{sortsOf}
 use Rattle.answers.specs.Answer.{Answer, accepted, refused}
 use Rattle.rules.specs.Note.{fileOk}
 use Rattle.rules.specs.Verdict.{sortsOfNode}
+use Rattle.certificate.specs.declared.frame.Frame.{Frame}
 use Rattle.certificate.specs.declared.reading.Opened.{Opened}
 use Rattle.certificate.specs.declared.reading.Opened.the-variants.{Passed, Refused}
-
--- where line 0 stands
-abbrev pub linesStart : List ℕ → ℕ
-linesStart cert = startOf cert + 80 * trailerOf cert .constraints
+use Rattle.certificate.specs.Frame.{frameOf}
 
 -- rules 1 to 8 have passed, and the node's sizes are at hand
 pub record NodePassed (node : List ℕ) (n property : ℕ) : Type 0 where
@@ -30,12 +28,11 @@ pub record FilePassed (cert : List ℕ) (t : Trailer) : Type 0 where
   pub trailer : t ≡ trailerOf cert
   pub file : fileOk cert ≡ true
 
-pub record Checking (node cert sorts : List ℕ) (t : Trailer) (n property : ℕ) : Type 0 where
-  pub trailer : t ≡ trailerOf cert
-  pub streams : n ≡ streamsOf node
-  pub property-is : property ≡ propertyOf node
+-- all of them have passed, and what was read of both files is at hand
+pub record Checking (node cert : List ℕ) (f : Frame) : Type 0 where
+  pub frame : f ≡ frameOf cert (streamsOf node) (propertyOf node)
+  pub room : f .lines + 80 * (f .base + f .step) ≤ length cert
   pub node-rules : NodeRules node
-  pub sorted : (x : ℕ) → sortsOf sorts x ≡ sortsOfNode node x
   pub ready : Ready (sortsOfNode node) cert
 
 -- the opening of a certificate: its trailer where 11 to 15 pass, else their refusal

@@ -1,5 +1,4 @@
 // Arithmetic lines: the opposites of their literals, times multipliers, add up to a contradiction.
-use crate::layout::line_head;
 use crate::sums::add_literals;
 use crate::sums::are_constraints;
 use crate::sums::are_zero;
@@ -7,21 +6,19 @@ use crate::sums::bound_of;
 ghost use mathlib.Core.Path.{_≡_};
 ghost use lib.IntN.{pos};
 ghost use lib.ListN.{replicate};
-ghost use Rattle.constraints.specs.Layout.{lineAt};
+ghost use Rattle.constraints.specs.Layout.{lineHeadAt, lineAt};
 ghost use Rattle.rules.specs.Arithmetic.{arithmeticOk};
 ghost use Rattle.certificate.specs.Sums.{constraintsFrom, sumsAfter};
 ghost use Rattle.certificate.specs.Checkable.{Checkable};
 
 // Rule 20, of the line at an offset of a file whose constraints start at another. The sums are lent at zero, and hold the
 // line's after it; those of a line that passes are zero again.
-pub fn arithmetic_ok(sums: &mut [i64], file: &[u8], start: usize, at: usize) -> bool
-    requires { ⌜ Checkable (now file) start at ⌝ }
+pub fn arithmetic_ok(sums: &mut [i64], file: &[u8], start: usize, at: usize, count: usize) -> bool
+    requires { ⌜ Checkable (now file) start at × (count ≡ lineHeadAt (now file) at .count) ⌝ }
     requires { ⌜ now sums ≡ replicate 576 (pos 0) ⌝ }
     ensures answer { λ r. ⌜ r ≡ arithmeticOk (constraintsFrom (now (file .entry)) start) (lineAt (now (file .entry)) at) ⌝ }
     ensures sums { λ r. ⌜ now (sums .exit) ≡ sumsAfter (constraintsFrom (now (file .entry)) start) (lineAt (now (file .entry)) at) ⌝ }
 {
-    let head = line_head(file, at);
-    let count = head.count as usize;
     if count < 1 {
         return false;
     }

@@ -1,62 +1,52 @@
 // The checks of lines and parts, put together.
+use crate::frame::Frame;
 use crate::lines::line_fault;
-use crate::lines::lines_start;
 use crate::parts::has_empty;
 use crate::refusals;
 use answers::CertificateVerdict;
 use answers::Place;
-use constraints::Trailer;
+ghost use Prim.Native.Nat.{ℕ, _+_, _*_, _≤_};
 ghost use mathlib.Core.Path.{_≡_};
+ghost use mathlib.Core.List.{List};
+ghost use lib.ListN.{length};
 ghost use Rattle.answers.specs.Answer.{certificateAnswer};
-ghost use Rattle.rules.specs.Verdict.{partsVerdict, linesVerdict};
+ghost use Rattle.constraints.specs.Rules.{sortsOf};
+ghost use Rattle.rules.specs.Verdict.{sortsOfNode, partsVerdict, linesVerdict};
 ghost use Rattle.certificate.specs.Checking.{Checking};
+ghost use Rattle.certificate.specs.Frame.{frameOf};
 
-// Rule 21, after all lines.
-fn parts_verdict(
-    node: &[u8],
-    cert: &[u8],
-    sorts: &[u8],
-    t: Trailer,
-    n: usize,
-    property: u16,
-) -> CertificateVerdict
-    requires { ⌜ Checking (now node) (now cert) (now sorts) t n property ⌝ }
-    ensures { λ r. ⌜ certificateAnswer r ≡ partsVerdict (now (node .entry)) (now (cert .entry)) ⌝ }
+// Rule 21, after all lines, whatever the node.
+fn parts_verdict(cert: &[u8], f: Frame) -> CertificateVerdict
+    requires { ⌜ f ≡ frameOf (now cert) (f .streams) (f .property) ⌝ }
+    requires { ⌜ f .lines + 80 * (f .base + f .step) ≤ length (now cert) ⌝ }
+    ensures { λ r. ⌜ ((node : List ℕ) → certificateAnswer r ≡ partsVerdict node (now (cert .entry))) ⌝ }
 {
-    let lines = lines_start(cert, t);
-    let base = t.base as usize;
-    let step = t.step as usize;
-    if !has_empty(cert, lines, 0, base) {
+    let base = f.base;
+    let step = f.step;
+    if !has_empty(cert, f.lines, 0, base) {
         return CertificateVerdict::Refused(refusals::NO_EMPTY_LINE, Place::Base);
     }
-    if !has_empty(cert, lines, base, step) {
+    if !has_empty(cert, f.lines, base, step) {
         return CertificateVerdict::Refused(refusals::NO_EMPTY_LINE, Place::Step);
     }
-    let depth = t.depth as usize;
+    let depth = f.depth as usize;
     CertificateVerdict::Accepted { depth, base, step }
 }
 
 // Rules 16 to 21: lines taken one at a time. One array of sums serves all, since each line that passes leaves it at zero.
-pub fn lines_verdict(
-    node: &[u8],
-    cert: &[u8],
-    sorts: &[u8],
-    t: Trailer,
-    n: usize,
-    property: u16,
-) -> CertificateVerdict
-    requires { ⌜ Checking (now node) (now cert) (now sorts) t n property ⌝ }
+pub fn lines_verdict(node: &[u8], cert: &[u8], sorts: &[u8], f: Frame) -> CertificateVerdict
+    requires { ⌜ Checking (now node) (now cert) f × ((x : ℕ) → sortsOf (now sorts) x ≡ sortsOfNode (now node) x) ⌝ }
     ensures { λ r. ⌜ certificateAnswer r ≡ linesVerdict (now (node .entry)) (now (cert .entry)) ⌝ }
 {
-    let lines = (t.base as usize) + (t.step as usize);
+    let lines = f.base + f.step;
     let mut sums = [0i64; 576];
     let mut i = 0;
     while i < lines {
-        let fault = line_fault(&mut sums, node, cert, sorts, t, n, property, i);
+        let fault = line_fault(&mut sums, node, cert, sorts, f, i);
         if fault != 0 {
             return CertificateVerdict::Refused(fault, Place::Line(i));
         }
         i += 1;
     }
-    parts_verdict(node, cert, sorts, t, n, property)
+    parts_verdict(cert, f)
 }

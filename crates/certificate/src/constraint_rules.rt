@@ -1,4 +1,5 @@
 // Rule 15, of a constraint and of all.
+use crate::frame::block_at;
 use crate::layout::constraint_head;
 use crate::layout::term_at;
 use answers::Found;
@@ -89,7 +90,7 @@ pub fn first_bad(file: &[u8], start: usize, m: usize, sorts: &[u8], k: u8) -> Fo
 {
     let mut i = 0;
     while i < m {
-        if !constraint_ok(file, start + 80 * i, sorts, k) {
+        if !constraint_ok(file, block_at(start, i), sorts, k) {
             return Found::At(i);
         }
         i += 1;

@@ -1,4 +1,5 @@
 // The certificate's note, handed back as the leading part of the caller's slice.
+use crate::frame::start_of;
 use crate::layout::trailer_of;
 use constraints::counts_ok;
 use constraints::distance_ok;
@@ -27,11 +28,7 @@ pub fn note_length(cert: &[u8]) -> usize
     if !file_ok(cert) {
         return 0;
     }
-    let t = trailer_of(cert);
-    let constraints = t.constraints as usize;
-    let base = t.base as usize;
-    let step = t.step as usize;
-    cert.len() - (16 + 80 * (constraints + base + step))
+    start_of(cert, trailer_of(cert))
 }
 
 // The note itself.

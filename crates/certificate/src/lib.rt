@@ -6,6 +6,7 @@ mod constraint_rules;
 mod content;
 mod equations;
 mod file_note;
+mod frame;
 mod joins;
 mod layout;
 mod lines;

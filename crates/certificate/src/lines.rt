@@ -1,137 +1,66 @@
 // The rules of one line, 16 before its kind's.
 use crate::arithmetic::arithmetic_ok;
 use crate::equations::equation_ok;
+use crate::frame::Frame;
+use crate::frame::block_at;
 use crate::joins::join_ok;
 use crate::layout::line_head;
 use crate::property::base_property_ok;
 use crate::property::step_property_ok;
 use crate::refusals;
 use crate::shape::shape_ok;
-use constraints::Trailer;
+use constraints::LineHead;
 use rules::Place;
 ghost use Prim.Native.Nat.{ℕ, _+_, _*_, _<_, _≤_};
 ghost use mathlib.Core.Path.{_≡_};
 ghost use mathlib.Core.Bool.{true, cond};
 ghost use lib.IntN.{pos};
 ghost use lib.ListN.{length, replicate};
-ghost use Rattle.constraints.specs.Layout.{trailerOf, sizeOf, startOf, constraintOf, lineOf};
-ghost use Rattle.rules.specs.Arithmetic.{arithmeticOk};
+ghost use Rattle.node.specs.Equations.{kindAt, equationAt};
+ghost use Rattle.constraints.specs.Layout.{lineHeadAt};
+ghost use Rattle.constraints.specs.Rules.{sortsOf};
 ghost use Rattle.rules.specs.Joins.{joinOk};
-ghost use Rattle.rules.specs.Verdict.{shapePasses, equationPasses, ownFault, lineFault, linePasses, partOf, firstLine};
-ghost use Rattle.certificate.specs.Checking.{Checking, linesStart};
-ghost use Rattle.certificate.specs.Ready.{LinesReady};
+ghost use Rattle.rules.specs.Lines.{equationIn};
+ghost use Rattle.rules.specs.Verdict.{sortsOfNode, shapePasses, ownFault, lineFault, linePasses};
+ghost use Rattle.certificate.specs.Checking.{Checking};
+ghost use Rattle.certificate.specs.Frame.{partIn};
+ghost use Rattle.certificate.specs.Ready.{LinesReady, lineWith, linesAt};
+ghost use Rattle.certificate.specs.Sums.{constraintsFrom};
 
-// Where constraint 0 stands.
-pub fn start_of(cert: &[u8], t: Trailer) -> usize
-    requires { ⌜ (t ≡ trailerOf (now cert)) × (sizeOf (trailerOf (now cert)) ≤ length (now cert)) ⌝ }
-    ensures { λ r. ⌜ r ≡ startOf (now (cert .entry)) ⌝ }
+// Rule 17, of line i, which stands at an offset and has this head.
+fn equation_passes(node: &[u8], cert: &[u8], f: Frame, at: usize, h: LineHead, i: usize) -> bool
+    requires { ⌜ Checking (now node) (now cert) f × (at + 80 ≤ length (now cert)) ⌝ }
+    ensures { λ r. ⌜ r ≡ equationIn (f .streams) (kindAt (now (node .entry))) (equationAt (now (node .entry))) (constraintsFrom (now (cert .entry)) (f .start)) (f .constraints) (partIn f i .offsets) (partIn f i .opening) (lineWith (now (cert .entry)) at h) ⌝ }
 {
-    let constraints = t.constraints as usize;
-    let base = t.base as usize;
-    let step = t.step as usize;
-    cert.len() - (16 + 80 * (constraints + base + step))
-}
-
-// Where line 0 stands.
-pub fn lines_start(cert: &[u8], t: Trailer) -> usize
-    requires { ⌜ (t ≡ trailerOf (now cert)) × (sizeOf (trailerOf (now cert)) ≤ length (now cert)) ⌝ }
-    ensures { λ r. ⌜ r ≡ linesStart (now (cert .entry)) ⌝ }
-{
-    let constraints = t.constraints as usize;
-    start_of(cert, t) + 80 * constraints
-}
-
-// Rule 16, of line i.
-fn shape_passes(
-    node: &[u8],
-    cert: &[u8],
-    sorts: &[u8],
-    t: Trailer,
-    n: usize,
-    property: u16,
-    i: usize,
-) -> bool
-    requires { ⌜ Checking (now node) (now cert) (now sorts) t n property ⌝ }
-    requires { ⌜ i < t .base + t .step ⌝ }
-    ensures { λ r. ⌜ r ≡ shapePasses (now (node .entry)) (now (cert .entry)) i ⌝ }
-{
-    let at = lines_start(cert, t) + 80 * i;
-    shape_ok(cert, at, sorts, t.depth, t.constraints)
-}
-
-// Rule 18, of line i.
-fn property_passes(cert: &[u8], t: Trailer, property: u16, i: usize) -> bool
-    requires { ⌜ (t ≡ trailerOf (now cert)) × (sizeOf (trailerOf (now cert)) ≤ length (now cert)) ⌝ }
-    requires { ⌜ (i < t .base + t .step) × (t .depth ≤ 8) ⌝ }
-    ensures { λ r. ⌜ r ≡ partOf (now (cert .entry)) property i .property (lineOf (now (cert .entry)) i) ⌝ }
-{
-    let at = lines_start(cert, t) + 80 * i;
-    if i < (t.base as usize) {
-        base_property_ok(cert, at, t.depth, property)
+    let depth = f.depth as usize;
+    if i < f.base {
+        equation_ok(node, cert, f, at, h, depth, Place::Opening)
     } else {
-        step_property_ok(cert, at, t.depth, property)
+        equation_ok(node, cert, f, at, h, depth + 1, Place::Unsure)
+    }
+}
+
+// Rule 18, of line i, which stands at an offset and has this head.
+fn property_passes(cert: &[u8], f: Frame, at: usize, h: LineHead, i: usize) -> bool
+    requires { ⌜ (at + 80 ≤ length (now cert)) × (f .depth ≤ 8) ⌝ }
+    ensures { λ r. ⌜ r ≡ partIn f i .property (lineWith (now (cert .entry)) at h) ⌝ }
+{
+    if i < f.base {
+        base_property_ok(cert, at, h, f.depth, f.property)
+    } else {
+        step_property_ok(cert, at, h, f.depth, f.property)
     }
 }
 
 // Rule 19, of line i.
-fn join_passes(cert: &[u8], t: Trailer, i: usize) -> bool
-    requires { ⌜ (t ≡ trailerOf (now cert)) × (sizeOf (trailerOf (now cert)) ≤ length (now cert)) ⌝ }
-    requires { ⌜ LinesReady (now cert) (linesStart (now cert)) i ⌝ }
-    ensures { λ r. ⌜ r ≡ joinOk (lineOf (now (cert .entry))) (firstLine (now (cert .entry)) i) i ⌝ }
+fn join_passes(cert: &[u8], f: Frame, i: usize) -> bool
+    requires { ⌜ LinesReady (now cert) (f .lines) i ⌝ }
+    ensures { λ r. ⌜ r ≡ joinOk (linesAt (now (cert .entry)) (f .lines)) (partIn f i .from) i ⌝ }
 {
-    let lines = lines_start(cert, t);
-    let base = t.base as usize;
-    if i < base {
-        join_ok(cert, lines, 0, i)
+    if i < f.base {
+        join_ok(cert, f.lines, 0, i)
     } else {
-        join_ok(cert, lines, base, i)
-    }
-}
-
-// Rule 20, of line i. The sums are lent at zero, and a line that passes leaves them so.
-fn arithmetic_passes(
-    sums: &mut [i64],
-    node: &[u8],
-    cert: &[u8],
-    sorts: &[u8],
-    t: Trailer,
-    n: usize,
-    property: u16,
-    i: usize,
-) -> bool
-    requires { ⌜ Checking (now node) (now cert) (now sorts) t n property ⌝ }
-    requires { ⌜ (i < t .base + t .step) × (shapePasses (now node) (now cert) i ≡ true) ⌝ }
-    requires { ⌜ now sums ≡ replicate 576 (pos 0) ⌝ }
-    ensures answer { λ r. ⌜ r ≡ arithmeticOk (constraintOf (now (cert .entry))) (lineOf (now (cert .entry)) i) ⌝ }
-    ensures cleared { λ r. ⌜ (r ≡ true → now (sums .exit) ≡ replicate 576 (pos 0)) ⌝ }
-{
-    let start = start_of(cert, t);
-    let at = lines_start(cert, t) + 80 * i;
-    arithmetic_ok(sums, cert, start, at)
-}
-
-// Rule 17, of line i.
-fn equation_passes(
-    node: &[u8],
-    cert: &[u8],
-    sorts: &[u8],
-    t: Trailer,
-    n: usize,
-    property: u16,
-    i: usize,
-) -> bool
-    requires { ⌜ Checking (now node) (now cert) (now sorts) t n property ⌝ }
-    requires { ⌜ i < t .base + t .step ⌝ }
-    ensures { λ r. ⌜ r ≡ equationPasses (now (node .entry)) (now (cert .entry)) i ⌝ }
-{
-    let start = start_of(cert, t);
-    let at = lines_start(cert, t) + 80 * i;
-    let m = t.constraints as usize;
-    let depth = t.depth as usize;
-    if i < (t.base as usize) {
-        equation_ok(node, cert, start, m, at, n, depth, Place::Opening)
-    } else {
-        equation_ok(node, cert, start, m, at, n, depth + 1, Place::Unsure)
+        join_ok(cert, f.lines, f.base, i)
     }
 }
 
@@ -147,34 +76,31 @@ fn own_fault(
     sums: &mut [i64],
     node: &[u8],
     cert: &[u8],
-    sorts: &[u8],
-    t: Trailer,
-    n: usize,
-    property: u16,
+    f: Frame,
+    at: usize,
+    h: LineHead,
     i: usize,
 ) -> usize
-    requires { ⌜ Checking (now node) (now cert) (now sorts) t n property ⌝ }
-    requires { ⌜ (i < t .base + t .step) × (shapePasses (now node) (now cert) i ≡ true) ⌝ }
-    requires { ⌜ LinesReady (now cert) (linesStart (now cert)) i ⌝ }
+    requires { ⌜ Checking (now node) (now cert) f × (at ≡ f .lines + 80 * i) × (h ≡ lineHeadAt (now cert) at) ⌝ }
+    requires { ⌜ (shapePasses (now node) (now cert) i ≡ true) × LinesReady (now cert) (f .lines) i ⌝ }
     requires { ⌜ now sums ≡ replicate 576 (pos 0) ⌝ }
     ensures answer { λ r. ⌜ r ≡ ownFault (now (node .entry)) (now (cert .entry)) i ⌝ }
     ensures cleared { λ r. ⌜ (r ≡ 0 → now (sums .exit) ≡ replicate 576 (pos 0)) ⌝ }
 {
-    let at = lines_start(cert, t) + 80 * i;
-    let kind = line_head(cert, at).kind;
+    let kind = h.kind;
     if kind == 1 {
-        let ok = equation_passes(node, cert, sorts, t, n, property, i);
+        let ok = equation_passes(node, cert, f, at, h, i);
         return unless(ok, refusals::EQUATION);
     }
     if kind == 2 {
-        let ok = property_passes(cert, t, property, i);
+        let ok = property_passes(cert, f, at, h, i);
         return unless(ok, refusals::PROPERTY);
     }
     if kind == 3 {
-        let ok = join_passes(cert, t, i);
+        let ok = join_passes(cert, f, i);
         return unless(ok, refusals::JOIN);
     }
-    let ok = arithmetic_passes(sums, node, cert, sorts, t, n, property, i);
+    let ok = arithmetic_ok(sums, cert, f.start, at, h.count as usize);
     unless(ok, refusals::ARITHMETIC)
 }
 
@@ -185,19 +111,19 @@ pub fn line_fault(
     node: &[u8],
     cert: &[u8],
     sorts: &[u8],
-    t: Trailer,
-    n: usize,
-    property: u16,
+    f: Frame,
     i: usize,
 ) -> usize
-    requires { ⌜ Checking (now node) (now cert) (now sorts) t n property ⌝ }
-    requires { ⌜ (i < t .base + t .step) × ((j : ℕ) → j < i → linePasses (now node) (now cert) j ≡ true) ⌝ }
+    requires { ⌜ Checking (now node) (now cert) f × ((x : ℕ) → sortsOf (now sorts) x ≡ sortsOfNode (now node) x) ⌝ }
+    requires { ⌜ (i < f .base + f .step) × ((j : ℕ) → j < i → linePasses (now node) (now cert) j ≡ true) ⌝ }
     requires { ⌜ now sums ≡ replicate 576 (pos 0) ⌝ }
     ensures answer { λ r. ⌜ r ≡ lineFault (now (node .entry)) (now (cert .entry)) i ⌝ }
     ensures cleared { λ r. ⌜ (r ≡ 0 → now (sums .exit) ≡ replicate 576 (pos 0)) ⌝ }
 {
-    if !shape_passes(node, cert, sorts, t, n, property, i) {
+    let at = block_at(f.lines, i);
+    let h = line_head(cert, at);
+    if !shape_ok(cert, at, h, sorts, f.depth, f.constraints) {
         return refusals::SHAPE;
     }
-    own_fault(sums, node, cert, sorts, t, n, property, i)
+    own_fault(sums, node, cert, f, at, h, i)
 }

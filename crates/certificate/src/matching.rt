@@ -1,5 +1,6 @@
 // A literal of a line against one of a clause.
 use crate::content::same_content;
+use crate::frame::block_at;
 use literals::Literal;
 use rules::Linear;
 use rules::Pattern;
@@ -27,7 +28,7 @@ fn is_most(file: &[u8], start: usize, m: usize, d: Linear, literal: Literal) -> 
     if m <= i {
         return false;
     }
-    same_content(file, start + 80 * i, d)
+    same_content(file, block_at(start, i), d)
 }
 
 // The literal matches the pattern, where the file's m constraints stand from an offset on.

@@ -1,4 +1,5 @@
 // Rule 21: each part has some line without literals.
+use crate::frame::block_at;
 use crate::layout::line_head;
 ghost use Prim.Native.Nat.{_+_, _*_, _≤_};
 ghost use mathlib.Core.Path.{_≡_};
@@ -15,7 +16,7 @@ pub fn has_empty(file: &[u8], lines: usize, from: usize, n: usize) -> bool
 {
     let mut i = 0;
     while i < n {
-        let head = line_head(file, lines + 80 * (from + i));
+        let head = line_head(file, block_at(lines, from + i));
         if head.count == 0 {
             return true;
         }

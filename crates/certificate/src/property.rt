@@ -1,14 +1,15 @@
 // Rule 18: property lines.
-use crate::layout::line_head;
 use crate::layout::literal_at;
+use constraints::LineHead;
 use constraints::var;
 use literals::Literal;
 ghost use Prim.Native.Nat.{_+_, _<_, _≤_};
 ghost use mathlib.Core.Path.{_≡_};
 ghost use lib.ListN.{length};
 ghost use Rattle.answers.specs.Checks.{every};
-ghost use Rattle.constraints.specs.Layout.{lineAt, literalAt};
+ghost use Rattle.constraints.specs.Layout.{literalAt};
 ghost use Rattle.rules.specs.Lines.{notPropertyAt, basePropertyOk, stepPropertyOk};
+ghost use Rattle.certificate.specs.Ready.{lineWith};
 
 // The first k literals of the line at an offset are not-prop at offsets 0 to k - 1.
 fn are_not_property(file: &[u8], at: usize, k: usize, prop: u16) -> bool
@@ -27,20 +28,18 @@ fn are_not_property(file: &[u8], at: usize, k: usize, prop: u16) -> bool
 }
 
 // A property line of the base, at depth k.
-pub fn base_property_ok(file: &[u8], at: usize, k: u8, prop: u16) -> bool
+pub fn base_property_ok(file: &[u8], at: usize, h: LineHead, k: u8, prop: u16) -> bool
     requires { ⌜ (at + 80 ≤ length (now file)) × (k ≤ 8) ⌝ }
-    ensures { λ r. ⌜ r ≡ basePropertyOk k prop (lineAt (now (file .entry)) at) ⌝ }
+    ensures { λ r. ⌜ r ≡ basePropertyOk k prop (lineWith (now (file .entry)) at h) ⌝ }
 {
-    let h = line_head(file, at);
     (h.q == 0) & (h.count == k) & are_not_property(file, at, k as usize, prop)
 }
 
 // A property line of the step, at depth k.
-pub fn step_property_ok(file: &[u8], at: usize, k: u8, prop: u16) -> bool
+pub fn step_property_ok(file: &[u8], at: usize, h: LineHead, k: u8, prop: u16) -> bool
     requires { ⌜ at + 80 ≤ length (now file) ⌝ }
-    ensures { λ r. ⌜ r ≡ stepPropertyOk k prop (lineAt (now (file .entry)) at) ⌝ }
+    ensures { λ r. ⌜ r ≡ stepPropertyOk k prop (lineWith (now (file .entry)) at h) ⌝ }
 {
-    let h = line_head(file, at);
     let depth = k as u16;
     if depth < h.q {
         return false;

@@ -1,8 +1,9 @@
 // The verdict on a node file and a certificate: all rules in the paper's order, the first failure given.
 use crate::checker::lines_verdict;
 use crate::constraint_rules::first_bad;
+use crate::frame::frame_of;
+use crate::frame::start_of;
 use crate::layout::trailer_of;
-use crate::lines::start_of;
 use crate::refusals;
 use crate::sorts::sorts_of;
 use answers::CertificateVerdict;
@@ -71,7 +72,7 @@ fn certificate_verdict(node: &[u8], cert: &[u8], n: usize, property: u16) -> Cer
 {
     let sorts = sorts_of(node, n);
     match opening(node, cert, &sorts) {
-        Opened::Passed(t) => lines_verdict(node, cert, &sorts, t, n, property),
+        Opened::Passed(t) => { lines_verdict(node, cert, &sorts, frame_of(cert, t, n, property)) }
         Opened::Refused(number, place) => CertificateVerdict::Refused(number, place),
     }
 }

@@ -1,5 +1,4 @@
 // Rule 16: the shape of a line.
-use crate::layout::line_head;
 use crate::layout::literal_at;
 use crate::layout::multiplier_at;
 use constraints::LineHead;
@@ -8,18 +7,19 @@ ghost use Prim.Native.Nat.{_+_, _<_, _≤_};
 ghost use mathlib.Core.Path.{_≡_};
 ghost use lib.ListN.{length};
 ghost use Rattle.answers.specs.Checks.{every};
-ghost use Rattle.constraints.specs.Layout.{lineAt, literalAt, multiplierAt};
+ghost use Rattle.constraints.specs.Layout.{literalAt, multiplierAt};
 ghost use Rattle.constraints.specs.Rules.{sortsOf};
 ghost use Rattle.rules.specs.Literals.{namesAtom};
 ghost use Rattle.rules.specs.Lines.{multiplierOk, slotOk, numbersOk, shapeOk};
+ghost use Rattle.certificate.specs.Ready.{lineWith};
 ghost use Rattle.certificate.specs.Slots.{listedOk, unusedOk};
 
 // The number names an atom, at depth k with m constraints.
-fn names_atom(sorts: &[u8], k: u8, m: u16, atom: usize) -> bool
+fn names_atom(sorts: &[u8], k: u8, m: usize, atom: usize) -> bool
     ensures { λ r. ⌜ r ≡ namesAtom (sortsOf (now (sorts .entry))) k m atom ⌝ }
 {
     if 576 <= atom {
-        return atom - 576 < (m as usize);
+        return atom - 576 < m;
     }
     let sort = sort_at(sorts, atom % 64);
     (atom / 64 <= (k as usize)) & (sort == 0)
@@ -37,7 +37,7 @@ fn is_multiplier(kind: u8, multiplier: u32) -> bool
 }
 
 // Literal and multiplier j of the line at an offset, of this kind, where it is listed.
-fn is_listed(file: &[u8], at: usize, kind: u8, sorts: &[u8], k: u8, m: u16, j: usize) -> bool
+fn is_listed(file: &[u8], at: usize, kind: u8, sorts: &[u8], k: u8, m: usize, j: usize) -> bool
     requires { ⌜ (at + 80 ≤ length (now file)) × (j < 12) ⌝ }
     ensures { λ r. ⌜ r ≡ listedOk (sortsOf (now (sorts .entry))) k m kind (literalAt (now (file .entry)) at) (multiplierAt (now (file .entry)) at) j ⌝ }
 {
@@ -47,7 +47,7 @@ fn is_listed(file: &[u8], at: usize, kind: u8, sorts: &[u8], k: u8, m: u16, j: u
 }
 
 // Each of the literals and multipliers that are listed.
-fn are_listed(file: &[u8], at: usize, h: LineHead, sorts: &[u8], k: u8, m: u16) -> bool
+fn are_listed(file: &[u8], at: usize, h: LineHead, sorts: &[u8], k: u8, m: usize) -> bool
     requires { ⌜ (at + 80 ≤ length (now file)) × (h .count ≤ 12) ⌝ }
     ensures { λ r. ⌜ r ≡ every (listedOk (sortsOf (now (sorts .entry))) k m (h .kind) (literalAt (now (file .entry)) at) (multiplierAt (now (file .entry)) at)) (h .count) ⌝ }
 {
@@ -80,7 +80,7 @@ fn are_unused(file: &[u8], at: usize, count: usize) -> bool
 }
 
 // Each of the twelve literals and multipliers.
-fn are_slots(file: &[u8], at: usize, h: LineHead, sorts: &[u8], k: u8, m: u16) -> bool
+fn are_slots(file: &[u8], at: usize, h: LineHead, sorts: &[u8], k: u8, m: usize) -> bool
     requires { ⌜ (at + 80 ≤ length (now file)) × (h .count ≤ 12) ⌝ }
     ensures { λ r. ⌜ r ≡ every (slotOk (sortsOf (now (sorts .entry))) k m (h .kind) (h .count) (literalAt (now (file .entry)) at) (multiplierAt (now (file .entry)) at)) 12 ⌝ }
 {
@@ -99,12 +99,11 @@ fn are_numbers(h: LineHead) -> bool
         & ((h.kind == 1) | (h.kind == 3) | (h.r == 0))
 }
 
-// Rule 16, of the line at an offset.
-pub fn shape_ok(file: &[u8], at: usize, sorts: &[u8], k: u8, m: u16) -> bool
+// Rule 16, of the line at an offset whose head was read.
+pub fn shape_ok(file: &[u8], at: usize, h: LineHead, sorts: &[u8], k: u8, m: usize) -> bool
     requires { ⌜ at + 80 ≤ length (now file) ⌝ }
-    ensures { λ r. ⌜ r ≡ shapeOk (sortsOf (now (sorts .entry))) k m (lineAt (now (file .entry)) at) ⌝ }
+    ensures { λ r. ⌜ r ≡ shapeOk (sortsOf (now (sorts .entry))) k m (lineWith (now (file .entry)) at h) ⌝ }
 {
-    let h = line_head(file, at);
     if 12 < h.count {
         return false;
     }

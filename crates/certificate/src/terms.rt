@@ -1,4 +1,5 @@
 // One literal of an arithmetic line: its constraint, times its multiplier.
+use crate::frame::block_at;
 use crate::layout::constraint_head;
 use crate::layout::literal_at;
 use crate::layout::multiplier_at;
@@ -47,7 +48,7 @@ pub fn place_of(file: &[u8], start: usize, at: usize, j: usize) -> usize
     ensures { λ r. ⌜ r ≡ placeOf (now (file .entry)) start at j ⌝ }
 {
     let literal = literal_at(file, at, j);
-    start + 80 * (literal.atom() - 576)
+    block_at(start, literal.atom() - 576)
 }
 
 // What the coefficients of the constraint of literal j are multiplied by.

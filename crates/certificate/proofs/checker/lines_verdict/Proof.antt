@@ -14,23 +14,18 @@ use Rattle.answers.specs.declared.Place.the-variants.{Line as AtLine}
 use Rattle.answers.specs.Answer.{refused}
 use Rattle.answers.specs.Checks.{lowest}
 use Rattle.answers.proofs.Lowest.{none, found}
-use Rattle.constraints.specs.declared.layout.Trailer.{Trailer}
 use Rattle.rules.specs.Verdict.{linePasses, linesVerdict}
+use Rattle.certificate.specs.declared.frame.Frame.{Frame}
+use Rattle.certificate.proofs.LineFacts.{framed}
 use Rattle.certificate.proofs.checker.lines_verdict.Statement.{statement}
 use Rattle.certificate.proofs.checker.lines_verdict.Tie as tie
 
 abbrev Inv-loop : tie.InvT-loop
-Inv-loop node cert sorts t n property lines sums₀ i₀ sums i =
-    (i ≤ lines) × ((j : ℕ) → j < i → linePasses node cert j ≡ true) × (lines ≡ t .base + t .step) × (sums ≡ replicate 576 (pos 0))
+Inv-loop node cert sorts f lines sums₀ i₀ sums i =
+    (i ≤ lines) × ((j : ℕ) → j < i → linePasses node cert j ≡ true) × (lines ≡ f .base + f .step) × (sums ≡ replicate 576 (pos 0))
 
 abbrev μ-loop : tie.MeasureT-loop
-μ-loop node cert sorts t n property lines sums₀ i₀ sums i = lines - i
-
-cast-lines : tie.Need-cast-lines Inv-loop μ-loop
-cast-lines c = search needs
-
-cast-lines-2 : tie.Need-cast-lines-2 Inv-loop μ-loop
-cast-lines-2 c = search needs
+μ-loop node cert sorts f lines sums₀ i₀ sums i = lines - i
 
 add-lines : tie.Need-add-lines Inv-loop μ-loop
 add-lines c = search needs
@@ -45,17 +40,17 @@ line-fault-requires : tie.Need-line-fault-requires Inv-loop μ-loop
 line-fault-requires c κs =
     let turn = c .before in
     let inv = turn .before .loop .inv in
-    (turn .before .before .before .before .before .before .before .pre, ((turn .loop-test .taken, inv .1), inv .3))
+    (turn .before .before .before .before .before .before .pre, ((turn .loop-test .taken, inv .1), inv .3))
 
 returns : tie.Need-returns Inv-loop μ-loop
 unfolding linesVerdict
 returns c =
     let tested = c .before .before in
     let turn = tested .before .before in
-    let s = turn .before .before .before .before .before .before .before in
+    let s = turn .before .before .before .before .before .before in
     let inv = turn .before .loop .inv in
     rw
-    (ap (λ (u : Trailer). lowest (linePasses (now (s .args .node)) (now (s .args .cert))) (u .base + u .step)) (sym (s .pre .trailer))
+    (ap (λ (f : Frame). lowest (linePasses (now (s .args .node)) (now (s .args .cert))) (f .base + f .step)) (sym (s .pre .0 .frame))
     ∙ found _ _ (turn .before .loop .i) (omega (arith, inv .2, turn .loop-test .taken)) (inv .1) (ne-eqb _ _ (λ e. c .if1 .taken (tested .line-fault .ensures .0 ∙ e))))
     (ap (λ (k : ℕ). refused k (AtLine (turn .before .loop .i))) (tested .line-fault .ensures .0))
 
@@ -76,17 +71,19 @@ loop-again c =
     )
 
 parts-verdict-requires : tie.Need-parts-verdict-requires Inv-loop μ-loop
-parts-verdict-requires c κs = search needs
+parts-verdict-requires c κs =
+    let ch = c .before .before .before .before .before .before .pre .0 in
+    (framed _ _ _ ch, ch .room)
 
 returns-2 : tie.Need-returns-2 Inv-loop μ-loop
 unfolding linesVerdict
 returns-2 c =
     let at = c .before .before in
-    let s = at .before .before .before .before .before .before in
+    let s = at .before .before .before .before .before in
     rw
-    (ap (λ (u : Trailer). lowest (linePasses (now (s .args .node)) (now (s .args .cert))) (u .base + u .step)) (sym (s .pre .trailer))
+    (ap (λ (f : Frame). lowest (linePasses (now (s .args .node)) (now (s .args .cert))) (f .base + f .step)) (sym (s .pre .0 .frame))
     ∙ none _ _ (λ j l. at .loop .inv .1 j (omega (arith, at .loop .inv .2, c .before .loop-test .left))))
-    (c .parts-verdict .ensures)
+    (c .parts-verdict .ensures (now (s .args .node)))
 
 pub lines-verdict-spec : {M : Type 1} → statement M
 lines-verdict-spec =
@@ -94,8 +91,6 @@ lines-verdict-spec =
     (tie.spec
     Inv-loop
     μ-loop
-    cast-lines
-    cast-lines-2
     add-lines
     loop-holds
     slice-aggregate-line-fault

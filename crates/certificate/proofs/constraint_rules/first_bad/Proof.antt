@@ -22,20 +22,18 @@ abbrev μ-loop : tie.MeasureT-loop
 loop-holds : tie.Need-loop-holds Inv-loop μ-loop
 loop-holds c = (search needs, below-none _)
 
-mul-constraint-ok : tie.Need-mul-constraint-ok Inv-loop μ-loop
-mul-constraint-ok c = search needs
-
-add-constraint-ok : tie.Need-add-constraint-ok Inv-loop μ-loop
-add-constraint-ok c = search needs
+block-at-requires : tie.Need-block-at-requires Inv-loop μ-loop
+block-at-requires c κs = search needs
 
 constraint-ok-requires : tie.Need-constraint-ok-requires Inv-loop μ-loop
 constraint-ok-requires c κs = search needs
 
 returns : tie.Need-returns Inv-loop μ-loop
 returns c =
+    let here = c .before .before in
     sym
-    (found _ _ _ (c .before .before .loop-test .taken) (c .before .before .before .loop .inv .1)
-    (sym (c .before .constraint-ok .ensures) ∙ not-true _ (c .if1 .taken)))
+    (found _ _ _ (here .before .loop-test .taken) (here .before .before .loop .inv .1)
+    (sym (rw (here .block-at .ensures) at (c .before .constraint-ok .ensures)) ∙ not-true _ (c .if1 .taken)))
 
 add-i : tie.Need-add-i Inv-loop μ-loop
 add-i c = search needs
@@ -44,10 +42,12 @@ loop-less : tie.Need-loop-less Inv-loop μ-loop
 loop-less c = search needs
 
 loop-again : tie.Need-loop-again Inv-loop μ-loop
-loop-again c = (
-  search needs,
-  below-more _ _ (c .before .before .before .loop .inv .1) (sym (c .before .constraint-ok .ensures) ∙ not-false _ (c .if1 .left)),
-)
+loop-again c =
+    let here = c .before .before in (
+      search needs,
+      below-more _ _ (here .before .before .loop .inv .1)
+          (sym (rw (here .block-at .ensures) at (c .before .constraint-ok .ensures)) ∙ not-false _ (c .if1 .left)),
+    )
 
 returns-2 : tie.Need-returns-2 Inv-loop μ-loop
 returns-2 c = sym (none _ _ (λ j l. c .before .loop .inv .1 j (omega arith)))
@@ -59,8 +59,7 @@ first-bad-spec =
     Inv-loop
     μ-loop
     loop-holds
-    mul-constraint-ok
-    add-constraint-ok
+    block-at-requires
     constraint-ok-requires
     returns
     add-i

@@ -23,51 +23,13 @@ returns c = rw (sym (c .before .file-ok .ensures) ∙ not-true _ (c .if1 .taken)
 trailer-of-requires : tie.Need-trailer-of-requires
 trailer-of-requires c κs = file-facts _ (passes c) .least
 
-cast-constraints : tie.Need-cast-constraints
-cast-constraints c = search needs
-
-cast-base : tie.Need-cast-base
-cast-base c = search needs
-
-cast-step : tie.Need-cast-step
-cast-step c = search needs
-
-add-result : tie.Need-add-result
-add-result c = search needs
-
-add-result-2 : tie.Need-add-result-2
-add-result-2 c = search needs
-
-mul-result : tie.Need-mul-result
-mul-result c = search needs
-
-add-result-3 : tie.Need-add-result-3
-add-result-3 c = search needs
-
-sub-result : tie.Need-sub-result
-sub-result c =
-    let read = c .before .before .before in
-    rw (read .trailer-of .ensures) (file-facts _ (passes (read .before)) .room)
+start-of-requires : tie.Need-start-of-requires
+start-of-requires c κs = (c .trailer-of .ensures, file-facts _ (passes (c .before)) .room)
 
 returns-2 : tie.Need-returns-2
 unfolding noteLength
-returns-2 c =
-    let read = c .before .before .before in
-    rw (read .trailer-of .ensures, passes (read .before))
+returns-2 c = rw (passes (c .before .before)) (c .start-of .ensures)
 
 pub note-length-spec : {M : Type 1} → statement M
 note-length-spec =
-    tie.close
-    (tie.spec
-    file-ok-requires
-    returns
-    trailer-of-requires
-    cast-constraints
-    cast-base
-    cast-step
-    add-result
-    add-result-2
-    mul-result
-    add-result-3
-    sub-result
-    returns-2)
+    tie.close (tie.spec file-ok-requires returns trailer-of-requires start-of-requires returns-2)

@@ -40,32 +40,30 @@ returns-3 c =
     let past : s .args .m ≤ constraintNumber (atomOf (s .args .literal .0)) = omega (arith, c .before .before .before .before .atom .ensures) in
     sym (not-past (constraints s) (s .args .m) (s .args .d) (s .args .literal .0) past)
 
-mul-same-content : tie.Need-mul-same-content
-mul-same-content c = search needs
-
-add-same-content : tie.Need-add-same-content
-add-same-content c = search needs
+block-at-requires : tie.Need-block-at-requires
+block-at-requires c κs = search needs
 
 same-content-requires : tie.Need-same-content-requires
 same-content-requires c κs =
-    let s = c .before .before .before .before .before .before in
-    (omega (arith, s .pre .0 .room), s .pre .0 .counts _ (c .if3 .left), s .pre .1)
+    let s = c .before .before .before .before .before .before .before in
+    rw (c .block-at .ensures) (omega (arith, s .pre .0 .room), s .pre .0 .counts _ (c .before .if3 .left), s .pre .1)
 
 returns-4 : tie.Need-returns-4
 returns-4 c =
-    let s = c .before .before .before .before .before .before .before in
-    let atom-is = c .before .before .before .before .before .atom .ensures in
+    let s = c .before .before .before .before .before .before .before .before in
+    let atom-is = c .before .before .before .before .before .before .atom .ensures in
     let high : 576 ≤ atomOf (s .args .literal .0) = omega (arith, atom-is) in
     let below : constraintNumber (atomOf (s .args .literal .0)) < s .args .m = omega (arith, atom-is) in
     c .same-content .ensures
-    ∙ ap (λ (a : ℕ). sameContent (ofConstraint (constraints s (constraintNumber a))) (boundedOf (s .args .d))) atom-is
+    ∙ rw (c .before .block-at .ensures)
+    (ap (λ (a : ℕ). sameContent (ofConstraint (constraints s (constraintNumber a))) (boundedOf (s .args .d))) atom-is)
     ∙ sym
     (says-content
     (constraints s)
     (s .args .m)
     (s .args .d)
     (s .args .literal .0)
-    (sym (c .before .before .before .before .sign .ensures) ∙ c .before .before .before .if1 .left)
+    (sym (c .before .before .before .before .before .sign .ensures) ∙ c .before .before .before .before .if1 .left)
     high
     below)
 
@@ -78,7 +76,6 @@ is-most-spec =
     returns
     returns-2
     returns-3
-    mul-same-content
-    add-same-content
+    block-at-requires
     same-content-requires
     returns-4)

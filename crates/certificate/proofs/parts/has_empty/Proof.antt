@@ -2,10 +2,11 @@
 -- Assumes nothing.
 use mathlib.Core.Path.{_≡_, sym, _∙_, ap}
 use mathlib.Core.Bool.{true, not}
-use Prim.Native.Nat.{_-_, _≤_}
+use Prim.Native.Nat.{_+_, _-_, _≤_}
 use native.Mathlib.Omega.{arith}
 use borrow.Author.Needs.{needs}
 use borrow.Author.Tests.{eq-eqb, ne-eqb}
+use denote.Ref.{now}
 use Rattle.answers.specs.Checks.{every}
 use Rattle.answers.proofs.Every.{every-none, every-more, every-not}
 use Rattle.constraints.specs.declared.layout.LineHead.{LineHead}
@@ -23,24 +24,24 @@ abbrev μ-loop : tie.MeasureT-loop
 loop-holds : tie.Need-loop-holds Inv-loop μ-loop
 loop-holds c = (search needs, every-none _)
 
-add-line-head : tie.Need-add-line-head Inv-loop μ-loop
-add-line-head c = search needs
+add-block-at : tie.Need-add-block-at Inv-loop μ-loop
+add-block-at c = search needs
 
-mul-line-head : tie.Need-mul-line-head Inv-loop μ-loop
-mul-line-head c = search needs
-
-add-line-head-2 : tie.Need-add-line-head-2 Inv-loop μ-loop
-add-line-head-2 c = search needs
+block-at-requires : tie.Need-block-at-requires Inv-loop μ-loop
+block-at-requires c κs = search needs
 
 line-head-requires : tie.Need-line-head-requires Inv-loop μ-loop
 line-head-requires c κs = search needs
+
+-- the count that was read is the line's
+count-is : (c : tie.After-line-head Inv-loop μ-loop) → let at = c .before .before .before in let a = at .before .before .args in linesAt (now (a .file)) (a .lines) (a .from + at .loop .i) .head .count ≡ c .line-head .result .count
+count-is c = ap (λ (h : LineHead). h .count) (sym (rw (c .before .block-at .ensures) at (c .line-head .ensures)))
 
 returns : tie.Need-returns Inv-loop μ-loop
 returns c =
     sym
     (ap not
-    (every-not _ _ _ (c .before .before .before .loop-test .taken)
-    (ap not (eq-eqb _ _ (ap (λ (h : LineHead). h .count) (sym (c .before .before .line-head .ensures)) ∙ c .if1 .taken)))))
+    (every-not _ _ _ (c .before .before .before .before .loop-test .taken) (ap not (eq-eqb _ _ (count-is (c .before .before) ∙ c .if1 .taken)))))
 
 add-i : tie.Need-add-i Inv-loop μ-loop
 add-i c = search needs
@@ -51,8 +52,8 @@ loop-less c = search needs
 loop-again : tie.Need-loop-again Inv-loop μ-loop
 loop-again c = (
   search needs,
-  every-more _ _ (c .before .before .before .before .loop .inv .1)
-      (ap not (ne-eqb _ _ (λ e. c .if1 .left (ap (λ (h : LineHead). h .count) (c .before .before .line-head .ensures) ∙ e)))),
+  every-more _ _ (c .before .before .before .before .before .loop .inv .1)
+      (ap not (ne-eqb _ _ (λ e. c .if1 .left (sym (count-is (c .before .before)) ∙ e)))),
 )
 
 returns-2 : tie.Need-returns-2 Inv-loop μ-loop
@@ -67,9 +68,8 @@ has-empty-spec =
     Inv-loop
     μ-loop
     loop-holds
-    add-line-head
-    mul-line-head
-    add-line-head-2
+    add-block-at
+    block-at-requires
     line-head-requires
     returns
     add-i

@@ -1,4 +1,4 @@
--- `certificate::base_property_ok` meets its contract: the tests in a row, of the fields that were read.
+-- `certificate::base_property_ok` meets its contract: the tests in a row.
 -- Assumes nothing.
 use mathlib.Core.Path.{_≡_, refl, sym, _∙_, ap}
 use mathlib.Core.Bool.{Bool, true, false, _&&_}
@@ -8,14 +8,12 @@ use borrow.Author.Needs.{needs}
 use borrow.Author.Tests.{eqb-true}
 use lib.Dec.{eqb}
 use Rattle.answers.specs.Checks.{every}
-use Rattle.constraints.specs.Layout.{Line, lineAt, listedIn}
+use Rattle.constraints.specs.Layout.{Line, listedIn}
 use Rattle.constraints.proofs.Blocks.{listed-is}
 use Rattle.rules.specs.Lines.{notPropertyAt, basePropertyOk}
+use Rattle.certificate.specs.Ready.{lineWith}
 use Rattle.certificate.proofs.property.base_property_ok.Statement.{statement}
 use Rattle.certificate.proofs.property.base_property_ok.Tie as tie
-
-line-head-requires : tie.Need-line-head-requires
-line-head-requires c κs = search needs
 
 are-not-property-requires : tie.Need-are-not-property-requires
 are-not-property-requires c κs = search needs
@@ -34,11 +32,11 @@ k-listed line k deep true ok = go (eqb (line .head .count) k) refl
 returns : tie.Need-returns
 unfolding basePropertyOk
 returns c =
-    let s = c .before .before .before .before .before in
+    let s = c .before .before .before .before in
     let a = s .args in
-    let line = lineAt (a .file .now) (a .at) in
-    rw (c .are-not-property .ensures, c .before .before .before .line-head .ensures)
+    let line = lineWith (a .file .now) (a .at) (a .h) in
+    rw (c .are-not-property .ensures)
     (k-listed line (a .k) (s .pre .1) (eqb (line .head .q) 0) (notPropertyAt (a .prop) (line .literal)))
 
 pub base-property-ok-spec : {M : Type 1} → statement M
-base-property-ok-spec = tie.close (tie.spec line-head-requires are-not-property-requires returns)
+base-property-ok-spec = tie.close (tie.spec are-not-property-requires returns)

@@ -9,7 +9,7 @@ use Rattle.constraints.specs.Rules.{sortsOf}
 use Rattle.rules.specs.Verdict.{sortsOfNode, fileVerdict}
 use Rattle.certificate.specs.declared.reading.Opened.the-variants.{Passed}
 use Rattle.certificate.specs.Checking.{openingOf}
-use Rattle.certificate.proofs.Openings.{counted-streams, node-sorts, unopened, file-accepted, checking}
+use Rattle.certificate.proofs.Openings.{counted-streams, node-sorts, unopened, file-accepted, frame-room, checking}
 use borrow.Author.Needs.{needs}
 use Rattle.certificate.proofs.reading.certificate_verdict.Statement.{statement}
 use Rattle.certificate.proofs.reading.certificate_verdict.Tie as tie
@@ -36,17 +36,19 @@ slice-aggregate-lines-verdict c = search needs
 passed : (c : tie.After-t) → let a = c .before .before .before .before .before .before .before .args in Passed (c .t .given .0 .0) ≡ openingOf (trailerOf (now (a .cert))) (fileVerdict (now (a .node)) (now (a .cert)))
 passed c = sym (c .t .given .1) ∙ c .before .before .opening .ensures
 
+frame-of-requires : tie.Need-frame-of-requires
+frame-of-requires c κs =
+    let told = c .before .before in
+    frame-room _ _ _ _ _ (told .before .before .before .before .before .before .before .pre) (passed told)
+
 lines-verdict-requires : tie.Need-lines-verdict-requires
 lines-verdict-requires c κs =
-    let told = c .before .before in
+    let told = c .before .before .before in
     let read = told .before .before .before .before in
-    checking _ _ _ _ _ _ (read .before .before .before .pre) (sorted read) (passed told)
+    (checking _ _ _ _ _ (read .before .before .before .pre) (passed told) _ (c .frame-of .ensures), sorted read)
 
 file-is : (c : tie.After-t) → let a = c .before .before .before .before .before .before .before .args in fileVerdict (now (a .node)) (now (a .cert)) ≡ accepted tt
-file-is c =
-    let read = c .before .before .before .before in
-    let s = read .before .before .before in
-    file-accepted (now (s .args .node)) (now (s .args .cert)) (read .sorts-of .result) _ _ _ (s .pre) (sorted read) (passed c)
+file-is c = file-accepted _ _ _ _ _ (c .before .before .before .before .before .before .before .pre) (passed c)
 
 refused-is : (c : tie.After-number) → let a = c .before .before .before .before .before .before .before .args in fileVerdict (now (a .node)) (now (a .cert)) ≡ refused (c .number .given .0 .0) (c .number .given .0 .1 .0)
 refused-is c = unopened _ _ _ _ (sym (c .number .given .1) ∙ c .before .before .opening .ensures)
@@ -55,7 +57,7 @@ enum-known-number : tie.Need-enum-known-number
 enum-known-number c = search needs
 
 returns : tie.Need-returns
-returns c = rw (file-is (c .before .before .before)) (c .lines-verdict .ensures)
+returns c = rw (file-is (c .before .before .before .before)) (c .lines-verdict .ensures)
 
 returns-2 : tie.Need-returns-2
 returns-2 c = rw (refused-is (c .before))
@@ -69,6 +71,7 @@ certificate-verdict-spec =
     opening-requires
     enum-known-t
     slice-aggregate-lines-verdict
+    frame-of-requires
     lines-verdict-requires
     enum-known-number
     returns

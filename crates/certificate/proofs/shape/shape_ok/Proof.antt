@@ -1,20 +1,21 @@
--- `certificate::shape_ok` meets its contract: the tests in a row, of the fields that were read.
+-- `certificate::shape_ok` meets its contract: the tests in a row.
 -- Assumes nothing.
 use mathlib.Core.Path.{_≡_, sym, _∙_}
 use mathlib.Core.Bool.{_&&_}
 use borrow.Author.Tests.{not-true, not-false}
 use denote.Ref.{now}
 use lib.Dec.{leb}
-use Rattle.constraints.specs.Layout.{lineAt}
+use Rattle.constraints.specs.Layout.{Line}
 use Rattle.constraints.specs.Rules.{sortsOf}
 use Rattle.rules.specs.Lines.{numbersOk}
+use Rattle.certificate.specs.Ready.{lineWith}
 use Rattle.certificate.proofs.SlotHalves.{shape-many, shape-missed, shape-rest}
 use borrow.Author.Needs.{needs}
 use Rattle.certificate.proofs.shape.shape_ok.Statement.{statement}
 use Rattle.certificate.proofs.shape.shape_ok.Tie as tie
 
-line-head-requires : tie.Need-line-head-requires
-line-head-requires c κs = search needs
+abbrev line : tie.Start → Line
+line s = lineWith (now (s .args .file)) (s .args .at) (s .args .h)
 
 are-numbers-requires : tie.Need-are-numbers-requires
 are-numbers-requires c κs = search needs
@@ -24,41 +25,29 @@ are-slots-requires c κs = search needs
 
 returns : tie.Need-returns
 returns c =
-    let read = c .before .before in
-    let s = read .before .before .before in
-    shape-many (sortsOf (now (s .args .sorts))) (s .args .k) (s .args .m) (lineAt (now (s .args .file)) (s .args .at))
-    (read .line-head .result)
-    (read .line-head .ensures)
-    (c .if1 .taken)
+    let s = c .before .before .before .before in
+    shape-many (sortsOf (now (s .args .sorts))) (s .args .k) (s .args .m) (line s) (c .if1 .taken)
 
 -- the test of the kind and its numbers
-numbers-are : (c : tie.After-are-numbers) → let h = c .before .before .before .before .before .line-head .result in (leb 1 (h .kind) && leb (h .kind) 4 && c .are-numbers .result) ≡ (leb 1 (h .kind) && leb (h .kind) 4 && numbersOk h)
+numbers-are : (c : tie.After-are-numbers) → let h = c .before .before .before .before .before .before .before .args .h in (leb 1 (h .kind) && leb (h .kind) 4 && c .are-numbers .result) ≡ (leb 1 (h .kind) && leb (h .kind) 4 && numbersOk h)
 numbers-are c = rw (c .are-numbers .ensures)
 
 returns-2 : tie.Need-returns-2
 returns-2 c =
     let few = c .before .before .before .before in
-    let read = few .before .before in
-    let s = read .before .before .before in
-    shape-missed (sortsOf (now (s .args .sorts))) (s .args .k) (s .args .m) (lineAt (now (s .args .file)) (s .args .at))
-    (read .line-head .result)
-    (read .line-head .ensures)
-    (few .if1 .left)
+    let s = few .before .before .before .before in
+    shape-missed (sortsOf (now (s .args .sorts))) (s .args .k) (s .args .m) (line s) (few .if1 .left)
     (sym (numbers-are (c .before)) ∙ not-true _ (c .if2 .taken))
 
 returns-3 : tie.Need-returns-3
 returns-3 c =
     let numbered = c .before in
     let few = numbered .before .before .before .before in
-    let read = few .before .before in
-    let s = read .before .before .before in
+    let s = few .before .before .before .before in
     c .are-slots .ensures
-    ∙ shape-rest (sortsOf (now (s .args .sorts))) (s .args .k) (s .args .m) (lineAt (now (s .args .file)) (s .args .at))
-    (read .line-head .result)
-    (read .line-head .ensures)
-    (few .if1 .left)
+    ∙ shape-rest (sortsOf (now (s .args .sorts))) (s .args .k) (s .args .m) (line s) (few .if1 .left)
     (sym (numbers-are (numbered .before)) ∙ not-false _ (numbered .if2 .left))
 
 pub shape-ok-spec : {M : Type 1} → statement M
 shape-ok-spec =
-    tie.close (tie.spec line-head-requires returns are-numbers-requires returns-2 are-slots-requires returns-3)
+    tie.close (tie.spec returns are-numbers-requires returns-2 are-slots-requires returns-3)

@@ -13,20 +13,17 @@ literal-at-requires c κs = search needs
 atom-requires : tie.Need-atom-requires
 atom-requires c κs = search needs
 
-sub-result : tie.Need-sub-result
-sub-result c =
+sub-block-at : tie.Need-sub-block-at
+sub-block-at c =
     rw (c .atom .ensures ∙ ap atomOf (c .before .literal-at .ensures))
     (leb-true 576 _ (c .before .before .before .pre .constraint))
 
-mul-result : tie.Need-mul-result
-mul-result c = search needs
-
-add-result : tie.Need-add-result
-add-result c = search needs
+block-at-requires : tie.Need-block-at-requires
+block-at-requires c κs = search needs
 
 returns : tie.Need-returns
 returns c = search needs
 
 pub place-of-spec : {M : Type 1} → statement M
 place-of-spec =
-    tie.close (tie.spec literal-at-requires atom-requires sub-result mul-result add-result returns)
+    tie.close (tie.spec literal-at-requires atom-requires sub-block-at block-at-requires returns)

@@ -1,8 +1,8 @@
 -- `certificate::start_of` meets its contract: the trailer is the file's, and what it counts lies within.
 -- Assumes nothing.
 use borrow.Author.Needs.{needs}
-use Rattle.certificate.proofs.lines.start_of.Statement.{statement}
-use Rattle.certificate.proofs.lines.start_of.Tie as tie
+use Rattle.certificate.proofs.frame.start_of.Statement.{statement}
+use Rattle.certificate.proofs.frame.start_of.Tie as tie
 
 cast-constraints : tie.Need-cast-constraints
 cast-constraints c = search needs

@@ -1,0 +1,59 @@
+// What never changes while lines are checked, read once and passed by value.
+use constraints::Trailer;
+ghost use Prim.Native.Nat.{_+_, _*_, _≤_};
+ghost use mathlib.Core.Path.{_≡_};
+ghost use lib.ListN.{length};
+ghost use mir.Syntax.{w64};
+ghost use mir.Val.{Fits};
+ghost use Rattle.constraints.specs.Layout.{trailerOf, sizeOf, startOf};
+ghost use Rattle.certificate.specs.Frame.{frameOf};
+
+// Of the trailer, where constraint 0 and line 0 stand, and of the node.
+pub struct Frame {
+    pub depth: u8,
+    pub constraints: usize,
+    pub base: usize,
+    pub step: usize,
+    pub start: usize,
+    pub lines: usize,
+    pub streams: usize,
+    pub property: u16,
+}
+
+// Where block i stands of those from an offset on: a constraint, or a line.
+pub fn block_at(from: usize, i: usize) -> usize
+    requires { ⌜ Fits w64 (from + 80 * i) ⌝ }
+    ensures { λ r. ⌜ r ≡ from + 80 * i ⌝ }
+{
+    from + 80 * i
+}
+
+// Where constraint 0 stands, which is where the note ends.
+pub fn start_of(cert: &[u8], t: Trailer) -> usize
+    requires { ⌜ (t ≡ trailerOf (now cert)) × (sizeOf (trailerOf (now cert)) ≤ length (now cert)) ⌝ }
+    ensures { λ r. ⌜ r ≡ startOf (now (cert .entry)) ⌝ }
+{
+    let constraints = t.constraints as usize;
+    let base = t.base as usize;
+    let step = t.step as usize;
+    cert.len() - (16 + 80 * (constraints + base + step))
+}
+
+// What was read of both files, where rules 11 to 15 have passed.
+pub fn frame_of(cert: &[u8], t: Trailer, streams: usize, property: u16) -> Frame
+    requires { ⌜ (t ≡ trailerOf (now cert)) × (sizeOf (trailerOf (now cert)) ≤ length (now cert)) ⌝ }
+    ensures { λ r. ⌜ r ≡ frameOf (now (cert .entry)) streams property ⌝ }
+{
+    let start = start_of(cert, t);
+    let constraints = t.constraints as usize;
+    Frame {
+        depth: t.depth,
+        constraints,
+        base: t.base as usize,
+        step: t.step as usize,
+        start,
+        lines: block_at(start, constraints),
+        streams,
+        property,
+    }
+}
