@@ -32,7 +32,7 @@ use Rattle.streams.proofs.Filled.{same-everywhere, is-filled}
 use Rattle.streams.proofs.Orders.{upTo-length, upTo-at}
 
 -- a stream that was found was found
-pub at-nothing : {A : Type 0} {i : ℕ} → At i ≡ Nothing → A
+at-nothing : {A : Type 0} {i : ℕ} → At i ≡ Nothing → A
 at-nothing e = let n : _≡_ {A = ℕ} 0 1 = cc in absurd (omega arith)
 
 -- where nothing is found the test has passed
@@ -104,7 +104,7 @@ module _ (file : List ℕ) (inputs : List ℤ) (first : Bool) (past : List ℤ) 
       go (inl e) before = rw e
       go (inr n) before = rw (after-more k h) (getD-set-other (after k) k x _ (pos 0) (λ e. omega arith) ∙ before n)
 
-  pub value-is-row : (i : ℕ) → i < streamsOf file → valuesIn (instantOf file inputs first past) i ≡ valueFrom i (after i)
+  value-is-row : (i : ℕ) → i < streamsOf file → valuesIn (instantOf file inputs first past) i ≡ valueFrom i (after i)
   value-is-row i l =
       rw instant-is
       (stays i (suc i) (streamsOf file) (lt-suc-self i) l (le-refl (streamsOf file))
