@@ -1,3 +1,4 @@
 pub mod Demands
+pub mod PassedOn
 pub mod Telling
 pub mod Zero

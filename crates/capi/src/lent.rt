@@ -1,7 +1,7 @@
 // The session's calls: the caller lends the record.
-use crate::answered::begun;
-use crate::answered::stepped;
 use crate::told::Told;
+use crate::told::told_instant;
+use crate::told::told_node;
 use session::Session;
 ghost use mathlib.Core.Path.{_≡_};
 ghost use lib.ListN.{length};
@@ -15,9 +15,7 @@ ghost use Rattle.capi.specs.Answers.{toldNode, toldInstant};
 pub extern "C" fn conuhawe_begin(s: &mut Session, file: &[u8]) -> Told
     ensures { λ r. ⌜ (r ≡ toldNode (verdictOf (now (file .entry)))) × (now (s .exit) ≡ begunOf (now (file .entry)) (now (s .entry))) ⌝ }
 {
-    let t = begun(*s, file);
-    *s = t.record;
-    t.answer
+    told_node(session::begin(s, file))
 }
 
 // An instant's call: an answered one moves the record on and fills the slice; a refusal leaves both.
@@ -27,7 +25,5 @@ pub extern "C" fn conuhawe_instant(s: &mut Session, inputs: &[i64], values: &mut
         × (now (s .exit) ≡ sessionOf (now (s .entry)) (now (inputs .entry)) (length (now (values .entry))))
         × (now (values .exit) ≡ sliceOf (now (s .entry)) (now (inputs .entry)) (now (values .entry))) ⌝ }
 {
-    let t = stepped(*s, inputs, values);
-    *s = t.record;
-    t.answer
+    told_instant(session::instant(s, inputs, values))
 }

@@ -1,5 +1,4 @@
 // The calls as C and Rust link them: over `node`, `session` and `certificate`, with answers in numbers.
-mod answered;
 mod files;
 mod lent;
 mod told;
