@@ -1,7 +1,7 @@
 pub mod Entries
 pub mod Every
-pub mod FromTheFront
-pub mod InARow
+pub mod Prefix
+pub mod Checks
 pub mod Lowest
 pub mod Tests
 pub mod Verdicts

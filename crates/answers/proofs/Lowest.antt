@@ -10,7 +10,7 @@ use native.Mathlib.Omega.{arith}
 use borrow.Author.Count.{below-more}
 use Rattle.answers.specs.declared.Found.{Found}
 use Rattle.answers.specs.declared.Found.the-variants.{At, Nothing}
-use Rattle.answers.specs.Checks.{lowest, orAt, Lowest}
+use Rattle.answers.specs.Checks.{lowest, orElse, Lowest}
 
 -- what an outcome of the search says
 abbrev Means : (ℕ → Bool) → ℕ → Found → Type 0
@@ -31,7 +31,7 @@ module _ (ok : ℕ → Bool) where
       (λ (m : i < n). rw (found n i m h e))
       (eq-or-lt-of-le (le-of-suc-le-suc l))
 
-  step : (n : ℕ) (f : Found) (b : Bool) → ok n ≡ b → Means ok n f → Means ok (suc n) (orAt f b n)
+  step : (n : ℕ) (f : Found) (b : Bool) → ok n ≡ b → Means ok n f → Means ok (suc n) (orElse f b n)
   step n (At i) b e m = record { below = omega (arith, m .below); fails = m .fails; before = m .before }
   step n Nothing true e m = λ k l. below-more (λ (j : ℕ). ok j ≡ true) n m e k (omega arith)
   step n Nothing false e m = record { below = omega arith; fails = e; before = m }

@@ -19,14 +19,14 @@ every ok zero = true
 every ok (suc n) = every ok n && ok n
 
 -- the lowest of the first n at which the test fails
-abbrev pub orAt : Found → Bool → ℕ → Found
-orAt (At k) ok i = At k
-orAt Nothing true i = Nothing
-orAt Nothing false i = At i
+abbrev pub orElse : Found → Bool → ℕ → Found
+orElse (At k) ok i = At k
+orElse Nothing true i = Nothing
+orElse Nothing false i = At i
 
 unfoldable pub lowest : (ℕ → Bool) → (n : ℕ) → Found
 lowest ok zero = Nothing
-lowest ok (suc n) = orAt (lowest ok n) (ok n) n
+lowest ok (suc n) = orElse (lowest ok n) (ok n) n
 
 -- i is the lowest of the first n at which the test fails
 pub record Lowest (ok : ℕ → Bool) (n i : ℕ) : Type 0 where

@@ -72,7 +72,7 @@ node-numbered file =
     (tested-all (lowest (passesOf file n Shape) n) 5 AtRecord _ (omega arith)
     (tested-all (lowest (passesOf file n Operands) n) 6 AtRecord _ (omega arith)
     (tested-all (lowest (passesOf file n Types) n) 7 AtRecord _ (omega arith)
-    (tested (node-rules.propertyOk (node-layout.typeOf file (propertyOf file))) 8 (AtRecord (propertyOf file)) _ (omega arith)
+    (tested (node-rules.propertyOk (node-layout.typeByteOf file (propertyOf file))) 8 (AtRecord (propertyOf file)) _ (omega arith)
     (none _))))))))
 
 lines : (found : Found) (number : ℕ → ℕ) (rest : Answer CertificateValues) → ((i : ℕ) → found ≡ At i → 0 < number i) → Numbered rest → Numbered (checkLines found number rest)

@@ -8,19 +8,19 @@ use native.Mathlib.Omega.{arith}
 use lib.ListN.{length}
 use Rattle.constraints.specs.Layout.{trailerOf, startOf, constraintOf, lineHeadAt, literalAt, multiplierAt}
 use Rattle.constraints.specs.Ready.{Ready}
-use Rattle.constraints.specs.Rules.{Sorts}
+use Rattle.constraints.specs.Rules.{Types}
 use Rattle.literals.specs.Literals.{atomOf, constraintNumber}
 use Rattle.rules.specs.Literals.{namesAtom}
 use Rattle.rules.proofs.ConstraintLimits.{Few, limited, names-constraint}
 use Rattle.certificate.specs.Checkable.{Checkable}
 
 -- a line within a file that passes rules 11 to 15, whose counts, multipliers and literals pass rule 16
-pub checkable : (sorts : Sorts) → Few sorts → (s : List ℕ) → Ready sorts s → (at : ℕ) → at + 80 ≤ length s
+pub checkable : (types : Types) → Few types → (s : List ℕ) → Ready types s → (at : ℕ) → at + 80 ≤ length s
     → lineHeadAt s at .count ≤ 12
     → ((j : ℕ) → j < lineHeadAt s at .count → multiplierAt s at j ≤ 1000000)
-    → ((j : ℕ) → j < lineHeadAt s at .count → namesAtom sorts (trailerOf s .depth) (trailerOf s .constraints) (atomOf (literalAt s at j)) ≡ true)
+    → ((j : ℕ) → j < lineHeadAt s at .count → namesAtom types (trailerOf s .depth) (trailerOf s .constraints) (atomOf (literalAt s at j)) ≡ true)
     → Checkable s (startOf s) at
-checkable sorts few s ready at room count multipliers literals =
+checkable types few s ready at room count multipliers literals =
     record {
       room = room;
       few = count;
@@ -29,9 +29,9 @@ checkable sorts few s ready at room count multipliers literals =
           λ j l on.
           let i = constraintNumber (atomOf (literalAt s at j)) in
           let below : i < trailerOf s .constraints =
-          names-constraint sorts (trailerOf s .depth) (trailerOf s .constraints) (atomOf (literalAt s at j)) (literals j l) on in
+          names-constraint types (trailerOf s .depth) (trailerOf s .constraints) (atomOf (literalAt s at j)) (literals j l) on in
           record {
             room = omega (arith, ready .room, below);
-            limited = limited sorts few (trailerOf s .depth) (ready .deep) (constraintOf s i) (ready .constraints i below);
+            limited = limited types few (trailerOf s .depth) (ready .deep) (constraintOf s i) (ready .constraints i below);
           };
     }

@@ -7,16 +7,16 @@ use mathlib.Core.List.{List}
 use Prim.Native.Nat.{ℕ, _+_, _*_, _<_, _≤_}
 use native.Mathlib.Omega.{arith}
 use lib.ListN.{length}
-use Rattle.node.specs.Equations.{kindAt, equationAt}
+use Rattle.node.specs.Equations.{typeAt, equationAt}
 use Rattle.node.specs.Layout.{streamsOf, propertyOf, recordsOf}
 use Rattle.node.proofs.FileRules.{sizes}
 use Rattle.constraints.specs.declared.layout.LineHead.{LineHead}
 use Rattle.constraints.specs.Layout.{Line, trailerOf, lineHeadAt, lineAt, lineOf, constraintOf}
-use Rattle.constraints.specs.Rules.{Sorts, sortsOf}
+use Rattle.constraints.specs.Rules.{Types, typesOf}
 use Rattle.rules.specs.Arithmetic.{arithmeticOk}
 use Rattle.rules.specs.Joins.{joinOk}
 use Rattle.rules.specs.Lines.{equationIn, shapeOk}
-use Rattle.rules.specs.Verdict.{sortsOfNode, shapePasses, equationPasses, propertyPasses, joinPasses, arithmeticPasses}
+use Rattle.rules.specs.Verdict.{typesOfNode, shapePasses, equationPasses, propertyPasses, joinPasses, arithmeticPasses}
 use Rattle.rules.proofs.ConstraintLimits.{Few, limited}
 use Rattle.rules.proofs.CertificateFacts.{few-streams}
 use Rattle.rules.proofs.LineParts.{from-is}
@@ -37,7 +37,7 @@ pub lines-are : (cert : List ℕ) (f : Frame) (n property : ℕ) → f ≡ frame
 lines-are cert f n property e = rw e (fun-ext λ i. ap (lineAt cert) (omega arith))
 
 module _ (node cert : List ℕ) (f : Frame) (ch : Checking node cert f) where
-  few : Few (sortsOfNode node)
+  few : Few (typesOfNode node)
   few = few-streams node (streamsOf node) (sizes node (ch .node-rules .file) .few)
 
   pub framed : f ≡ frameOf cert (f .streams) (f .property)
@@ -53,7 +53,7 @@ module _ (node cert : List ℕ) (f : Frame) (ch : Checking node cert f) where
         room = omega (arith, ch .ready .room);
         counts =
             λ i l.
-            limited (sortsOfNode node) few (trailerOf cert .depth) (ch .ready .deep) (constraintOf cert i) (ch .ready .constraints i l) .few;
+            limited (typesOfNode node) few (trailerOf cert .depth) (ch .ready .deep) (constraintOf cert i) (ch .ready .constraints i l) .few;
       })
 
   -- what the clauses of a stream ask of the node, up to offset k
@@ -80,30 +80,30 @@ module _ (node cert : List ℕ) (f : Frame) (ch : Checking node cert f) where
     pub arithmetic-is : arithmeticOk (constraintsFrom cert (f .start)) (lineAt cert at) ≡ arithmeticPasses cert i
     arithmetic-is = ap₂ (λ (g : Frame) (line : Line). arithmeticOk (constraintsFrom cert (g .start)) line) (ch .frame) line-here
 
-    pub line-shape : shapePasses node cert i ≡ true → ShapeFacts (sortsOfNode node) (trailerOf cert .depth) (trailerOf cert .constraints) (lineAt cert at)
+    pub line-shape : shapePasses node cert i ≡ true → ShapeFacts (typesOfNode node) (trailerOf cert .depth) (trailerOf cert .constraints) (lineAt cert at)
     unfolding shapePasses
-    line-shape passed = rw line-here (shape-facts (sortsOfNode node) (trailerOf cert .depth) (trailerOf cert .constraints) (lineOf cert i) passed)
+    line-shape passed = rw line-here (shape-facts (typesOfNode node) (trailerOf cert .depth) (trailerOf cert .constraints) (lineOf cert i) passed)
 
     pub line-checkable : at + 80 ≤ length cert → shapePasses node cert i ≡ true → Checkable cert (f .start) at
     line-checkable room passed =
         let shape = line-shape passed in
-        rw (ch .frame) (checkable (sortsOfNode node) few cert (ch .ready) at room (shape .count) (shape .multipliers) (shape .atoms))
+        rw (ch .frame) (checkable (typesOfNode node) few cert (ch .ready) at room (shape .count) (shape .multipliers) (shape .atoms))
 
     -- .. and whose head was read
     module _ (h : LineHead) (g : h ≡ lineHeadAt cert at) where
       pub line-is : lineWith cert at h ≡ lineOf cert i
       line-is = ap (lineWith cert at) g ∙ line-here
 
-      pub shape-is : (sorts : List ℕ) → ((x : ℕ) → sortsOf sorts x ≡ sortsOfNode node x) → shapeOk (sortsOf sorts) (f .depth) (f .constraints) (lineWith cert at h) ≡ shapePasses node cert i
+      pub shape-is : (types : List ℕ) → ((x : ℕ) → typesOf types x ≡ typesOfNode node x) → shapeOk (typesOf types) (f .depth) (f .constraints) (lineWith cert at h) ≡ shapePasses node cert i
       unfolding shapePasses
-      shape-is sorts sorted =
-          ap₂ (λ (g : Frame) (line : Line). shapeOk (sortsOf sorts) (g .depth) (g .constraints) line) (ch .frame) line-is
-          ∙ ap (λ (of : Sorts). shapeOk of (trailerOf cert .depth) (trailerOf cert .constraints) (lineOf cert i)) (fun-ext sorted)
+      shape-is types are-types =
+          ap₂ (λ (g : Frame) (line : Line). shapeOk (typesOf types) (g .depth) (g .constraints) line) (ch .frame) line-is
+          ∙ ap (λ (of : Types). shapeOk of (trailerOf cert .depth) (trailerOf cert .constraints) (lineOf cert i)) (fun-ext are-types)
 
-      pub equation-is : equationIn (f .streams) (kindAt node) (equationAt node) (constraintsFrom cert (f .start)) (f .constraints) (partIn f i .offsets) (partIn f i .opening) (lineWith cert at h) ≡ equationPasses node cert i
+      pub equation-is : equationIn (f .streams) (typeAt node) (equationAt node) (constraintsFrom cert (f .start)) (f .constraints) (partIn f i .offsets) (partIn f i .opening) (lineWith cert at h) ≡ equationPasses node cert i
       equation-is =
           ap₂
-          (λ (g : Frame) (line : Line). equationIn (g .streams) (kindAt node) (equationAt node) (constraintsFrom cert (g .start)) (g .constraints) (partIn g i .offsets) (partIn g i .opening) line)
+          (λ (g : Frame) (line : Line). equationIn (g .streams) (typeAt node) (equationAt node) (constraintsFrom cert (g .start)) (g .constraints) (partIn g i .offsets) (partIn g i .opening) line)
           (ch .frame) line-is
 
       pub property-is : partIn f i .property (lineWith cert at h) ≡ propertyPasses node cert i

@@ -2,7 +2,7 @@
 -- Assumes nothing.
 use mathlib.Core.List.{List}
 use Prim.Native.Nat.{ℕ}
-use Rattle.node.specs.Equations.{kindAt, equationAt, constantOf}
+use Rattle.node.specs.Equations.{typeAt, equationAt, constantOf}
 use Rattle.node.specs.Layout.{streamsOf}
 use Rattle.node.specs.Outcome.{NodeRules}
 use Rattle.node.specs.Reads.{rowFor}
@@ -11,4 +11,4 @@ use Rattle.node.proofs.WellFormedness.{well-formed}
 use Rattle.certificate.specs.Constants.{ConstantsLimited}
 
 pub constants-limited : (node : List ℕ) → NodeRules node → ConstantsLimited node (streamsOf node)
-constants-limited node rules p l = limited (rowFor (equationAt node p) .k) (kindAt node p) (constantOf (equationAt node p)) (well-formed node rules .constants p l)
+constants-limited node rules p l = limited (rowFor (equationAt node p) .k) (typeAt node p) (constantOf (equationAt node p)) (well-formed node rules .constants p l)

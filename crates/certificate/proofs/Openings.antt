@@ -15,9 +15,9 @@ use Rattle.node.proofs.Outcomes.{accepted-keeps, accepted-values}
 use Rattle.constraints.specs.declared.layout.Trailer.{Trailer}
 use Rattle.constraints.specs.Layout.{trailerOf, sizeOf, startOf}
 use Rattle.constraints.specs.Ready.{Ready}
-use Rattle.constraints.specs.Rules.{Sorts, sortsOf, constraintPasses as passesFrom}
-use Rattle.rules.specs.Sorts.{sortsBelow}
-use Rattle.rules.specs.Verdict.{sortsOfNode, constraintPasses, fileVerdict}
+use Rattle.constraints.specs.Rules.{Types, typesOf, constraintPasses as passesFrom}
+use Rattle.rules.specs.Types.{typesBelow}
+use Rattle.rules.specs.Verdict.{typesOfNode, constraintPasses, fileVerdict}
 use Rattle.rules.proofs.FileFacts.{FileFacts, file-facts, file-passed}
 use Rattle.rules.proofs.Outcomes.{file-opens}
 use Rattle.certificate.specs.declared.frame.Frame.{Frame}
@@ -40,9 +40,9 @@ counted-streams node n property passed =
     let small = sizes node (passed .node-rules .file) in
     (rw (passed .streams) (small .few), passed .streams ∙ sym (small .records))
 
--- the sorts that were read are the node's
-pub node-sorts : (node sorts : List ℕ) (n property : ℕ) → NodePassed node n property → ((x : ℕ) → sortsOf sorts x ≡ sortsBelow node n x) → (x : ℕ) → sortsOf sorts x ≡ sortsOfNode node x
-node-sorts node sorts n property passed sorted x = rw (← (passed .streams)) (sorted x)
+-- the types that were read are the node's
+pub node-types : (node types : List ℕ) (n property : ℕ) → NodePassed node n property → ((x : ℕ) → typesOf types x ≡ typesBelow node n x) → (x : ℕ) → typesOf types x ≡ typesOfNode node x
+node-types node types n property passed are-types x = rw (← (passed .streams)) (are-types x)
 
 module _ (cert : List ℕ) (t : Trailer) (of-file : FilePassed cert t) where
   facts : FileFacts cert
@@ -55,9 +55,9 @@ module _ (cert : List ℕ) (t : Trailer) (of-file : FilePassed cert t) where
   constraints-room start e = rw (e, of-file .trailer) (omega (arith, facts .room))
 
   -- the search over the constraints is the definition's
-  pub constraints-searched : (node sorts : List ℕ) → ((x : ℕ) → sortsOf sorts x ≡ sortsOfNode node x) → (start : ℕ) → start ≡ startOf cert → lowest (constraintPasses node cert) (trailerOf cert .constraints) ≡ lowest (passesFrom (sortsOf sorts) (t .depth) cert start) (t .constraints)
-  constraints-searched node sorts sorted start e =
-      rw (e, of-file .trailer) (ap (λ (f : Sorts). lowest (passesFrom f (trailerOf cert .depth) cert (startOf cert)) (trailerOf cert .constraints)) (sym (fun-ext sorted)))
+  pub constraints-searched : (node types : List ℕ) → ((x : ℕ) → typesOf types x ≡ typesOfNode node x) → (start : ℕ) → start ≡ startOf cert → lowest (constraintPasses node cert) (trailerOf cert .constraints) ≡ lowest (passesFrom (typesOf types) (t .depth) cert start) (t .constraints)
+  constraints-searched node types are-types start e =
+      rw (e, of-file .trailer) (ap (λ (f : Types). lowest (passesFrom f (trailerOf cert .depth) cert (startOf cert)) (trailerOf cert .constraints)) (sym (fun-ext are-types)))
 
 -- what an opening says that has passed
 opened : (t u : Trailer) (a : Answer (Unit {0})) → Passed t ≡ openingOf u a → (a ≡ accepted tt) × (t ≡ u)
@@ -73,7 +73,7 @@ module _ (node cert : List ℕ) (t : Trailer) (n property : ℕ) (of-node : Node
   pub file-accepted : fileVerdict node cert ≡ accepted tt
   file-accepted = opened t (trailerOf cert) (fileVerdict node cert) e .0
 
-  ready : Ready (sortsOfNode node) cert
+  ready : Ready (typesOfNode node) cert
   ready =
       let b = file-opens node cert (of-node .node-rules) file-accepted in
       let f = file-facts cert (file-passed cert (b .file .size) (b .file .fixed) (b .file .counts) (b .file .distance)) in

@@ -11,17 +11,17 @@ use Rattle.answers.proofs.Every.{every-all, every-of}
 use Rattle.answers.proofs.Tests.{both-true}
 use Rattle.constraints.specs.declared.layout.LineHead.{LineHead}
 use Rattle.constraints.specs.Layout.{Line}
-use Rattle.constraints.specs.Rules.{Sorts}
+use Rattle.constraints.specs.Rules.{Types}
 use Rattle.rules.specs.Lines.{slotOk, numbersOk, shapeOk}
 use Rattle.certificate.proofs.Named.{same-test}
 use Rattle.certificate.specs.Slots.{listedOk, unusedOk}
 
-module _ (sorts : Sorts) (k m kind count : ℕ) (literal multiplier : ℕ → ℕ) where
+module _ (types : Types) (k m kind count : ℕ) (literal multiplier : ℕ → ℕ) where
   abbrev slot : ℕ → Bool
-  slot = slotOk sorts k m kind count literal multiplier
+  slot = slotOk types k m kind count literal multiplier
 
   abbrev listed : ℕ → Bool
-  listed = listedOk sorts k m kind literal multiplier
+  listed = listedOk types k m kind literal multiplier
 
   abbrev unused : ℕ → Bool
   unused = unusedOk count literal multiplier
@@ -68,11 +68,11 @@ module _ (sorts : Sorts) (k m kind count : ℕ) (literal multiplier : ℕ → �
       let both : every unused 12 ≡ (every listed count && every unused 12) = rw e in
       both ∙ halves few
 
-module _ (sorts : Sorts) (k m : ℕ) (line : Line) where
+module _ (types : Types) (k m : ℕ) (line : Line) where
   abbrev h : LineHead
   h = line .head
 
-  pub shape-many : 12 < h .count → false ≡ shapeOk sorts k m line
+  pub shape-many : 12 < h .count → false ≡ shapeOk types k m line
   unfolding shapeOk
   shape-many l = rw (lt-leb (h .count) 12 l, and-false (leb 1 (h .kind) && leb (h .kind) 4))
 
@@ -80,16 +80,16 @@ module _ (sorts : Sorts) (k m : ℕ) (line : Line) where
   numbers = leb 1 (h .kind) && leb (h .kind) 4 && numbersOk h
 
   abbrev slots : Bool
-  slots = every (slotOk sorts k m (h .kind) (h .count) (line .literal) (line .multiplier)) 12
+  slots = every (slotOk types k m (h .kind) (h .count) (line .literal) (line .multiplier)) 12
 
-  few-is : h .count ≤ 12 → (numbers && slots) ≡ shapeOk sorts k m line
+  few-is : h .count ≤ 12 → (numbers && slots) ≡ shapeOk types k m line
   unfolding shapeOk
   few-is l = rw (le-leb (h .count) 12 l, and-true (leb 1 (h .kind) && leb (h .kind) 4))
 
-  pub shape-missed : h .count ≤ 12 → numbers ≡ false → false ≡ shapeOk sorts k m line
+  pub shape-missed : h .count ≤ 12 → numbers ≡ false → false ≡ shapeOk types k m line
   shape-missed l f = sym (sym (few-is l) ∙ rw f)
 
-  pub shape-rest : h .count ≤ 12 → numbers ≡ true → slots ≡ shapeOk sorts k m line
+  pub shape-rest : h .count ≤ 12 → numbers ≡ true → slots ≡ shapeOk types k m line
   shape-rest l t =
       let both : slots ≡ (numbers && slots) = rw t in
       both ∙ few-is l

@@ -11,7 +11,7 @@ use Rattle.constraints.specs.Layout.{trailerOf}
 use Rattle.constraints.specs.Ready.{Ready}
 use Rattle.answers.specs.Answer.{Answer, accepted, refused}
 use Rattle.rules.specs.Note.{fileOk}
-use Rattle.rules.specs.Verdict.{sortsOfNode}
+use Rattle.rules.specs.Verdict.{typesOfNode}
 use Rattle.certificate.specs.declared.frame.Frame.{Frame}
 use Rattle.certificate.specs.declared.reading.Opened.{Opened}
 use Rattle.certificate.specs.declared.reading.Opened.the-variants.{Passed, Refused}
@@ -33,7 +33,7 @@ pub record Checking (node cert : List ℕ) (f : Frame) : Type 0 where
   pub frame : f ≡ frameOf cert (streamsOf node) (propertyOf node)
   pub room : f .lines + 80 * (f .base + f .step) ≤ length cert
   pub node-rules : NodeRules node
-  pub ready : Ready (sortsOfNode node) cert
+  pub ready : Ready (typesOfNode node) cert
 
 -- the opening of a certificate: its trailer where 11 to 15 pass, else their refusal
 abbrev pub openingOf : Trailer → Answer (Unit {0}) → Opened

@@ -10,8 +10,8 @@ ghost use mathlib.Core.Path.{_≡_};
 ghost use mathlib.Core.List.{List};
 ghost use lib.ListN.{length};
 ghost use Rattle.answers.specs.Answer.{certificateAnswer};
-ghost use Rattle.constraints.specs.Rules.{sortsOf};
-ghost use Rattle.rules.specs.Verdict.{sortsOfNode, partsVerdict, linesVerdict};
+ghost use Rattle.constraints.specs.Rules.{typesOf};
+ghost use Rattle.rules.specs.Verdict.{typesOfNode, partsVerdict, linesVerdict};
 ghost use Rattle.certificate.specs.Checking.{Checking};
 ghost use Rattle.certificate.specs.Frame.{frameOf};
 
@@ -34,15 +34,15 @@ fn parts_verdict(cert: &[u8], f: Frame) -> CertificateVerdict
 }
 
 // Rules 16 to 21: lines taken one at a time. One array of sums serves all, since each line that passes leaves it at zero.
-pub fn lines_verdict(node: &[u8], cert: &[u8], sorts: &[u8], f: Frame) -> CertificateVerdict
-    requires { ⌜ Checking (now node) (now cert) f × ((x : ℕ) → sortsOf (now sorts) x ≡ sortsOfNode (now node) x) ⌝ }
+pub fn lines_verdict(node: &[u8], cert: &[u8], types: &[u8], f: Frame) -> CertificateVerdict
+    requires { ⌜ Checking (now node) (now cert) f × ((x : ℕ) → typesOf (now types) x ≡ typesOfNode (now node) x) ⌝ }
     ensures { λ r. ⌜ certificateAnswer r ≡ linesVerdict (now (node .entry)) (now (cert .entry)) ⌝ }
 {
     let lines = f.base + f.step;
     let mut sums = [0i64; 576];
     let mut i = 0;
     while i < lines {
-        let fault = line_fault(&mut sums, node, cert, sorts, f, i);
+        let fault = line_fault(&mut sums, node, cert, types, f, i);
         if fault != 0 {
             return CertificateVerdict::Refused(fault, Place::Line(i));
         }

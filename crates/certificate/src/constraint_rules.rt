@@ -4,13 +4,13 @@ use crate::layout::constraint_head;
 use crate::layout::term_at;
 use answers::Found;
 use constraints::Term;
-use constraints::sort_at;
+use constraints::type_at;
 ghost use Prim.Native.Nat.{_+_, _*_, _<_, _≤_};
 ghost use mathlib.Core.Path.{_≡_};
 ghost use lib.ListN.{length};
 ghost use Rattle.answers.specs.Checks.{every, lowest};
 ghost use Rattle.constraints.specs.Layout.{constraintAt, termAt};
-ghost use Rattle.constraints.specs.Rules.{sortsOf, between, usedOk, rises, unusedOk, termOk, constraintOk, constraintPasses};
+ghost use Rattle.constraints.specs.Rules.{typesOf, between, usedOk, rises, unusedOk, termOk, constraintOk, constraintPasses};
 
 fn between(low: i64, z: i64, high: i64) -> bool
     ensures { λ r. ⌜ r ≡ between low z high ⌝ }
@@ -18,11 +18,11 @@ fn between(low: i64, z: i64, high: i64) -> bool
     (low <= z) & (z <= high)
 }
 
-fn is_used_ok(sorts: &[u8], k: u8, t: Term) -> bool
-    ensures { λ r. ⌜ r ≡ usedOk (sortsOf (now (sorts .entry))) k t ⌝ }
+fn is_used_ok(types: &[u8], k: u8, t: Term) -> bool
+    ensures { λ r. ⌜ r ≡ usedOk (typesOf (now (types .entry))) k t ⌝ }
 {
-    let sort = sort_at(sorts, t.stream as usize);
-    (sort == 1)
+    let its_type = type_at(types, t.stream as usize);
+    (its_type == 1)
         & (t.offset <= k)
         & (t.zero == 0)
         & between(-1000000000, t.coefficient, 1000000000)
@@ -42,40 +42,40 @@ fn is_unused_ok(t: Term) -> bool
 }
 
 // Term j of the constraint at an offset, of which the first count are used.
-fn is_term_ok(file: &[u8], at: usize, sorts: &[u8], k: u8, count: u8, j: usize) -> bool
+fn is_term_ok(file: &[u8], at: usize, types: &[u8], k: u8, count: u8, j: usize) -> bool
     requires { ⌜ (at + 80 ≤ length (now file)) × (j < 8) ⌝ }
-    ensures { λ r. ⌜ r ≡ termOk (sortsOf (now (sorts .entry))) k count (termAt (now (file .entry)) at) j ⌝ }
+    ensures { λ r. ⌜ r ≡ termOk (typesOf (now (types .entry))) k count (termAt (now (file .entry)) at) j ⌝ }
 {
     let term = term_at(file, at, j);
     if (count as usize) <= j {
         return is_unused_ok(term);
     }
     if j == 0 {
-        return is_used_ok(sorts, k, term);
+        return is_used_ok(types, k, term);
     }
-    is_used_ok(sorts, k, term) & is_rising(term_at(file, at, j - 1), term)
+    is_used_ok(types, k, term) & is_rising(term_at(file, at, j - 1), term)
 }
 
 // Rule 15, of the constraint at an offset.
-pub fn constraint_ok(file: &[u8], at: usize, sorts: &[u8], k: u8) -> bool
+pub fn constraint_ok(file: &[u8], at: usize, types: &[u8], k: u8) -> bool
     requires { ⌜ at + 80 ≤ length (now file) ⌝ }
-    ensures { λ r. ⌜ r ≡ constraintOk (sortsOf (now (sorts .entry))) k (constraintAt (now (file .entry)) at) ⌝ }
+    ensures { λ r. ⌜ r ≡ constraintOk (typesOf (now (types .entry))) k (constraintAt (now (file .entry)) at) ⌝ }
 {
     let head = constraint_head(file, at);
     (head.count <= 8)
         & head.zeros
         & between(-100000000000, head.bound, 100000000000)
-        & are_terms_ok(file, at, sorts, k, head.count)
+        & are_terms_ok(file, at, types, k, head.count)
 }
 
 // Each of the eight terms.
-fn are_terms_ok(file: &[u8], at: usize, sorts: &[u8], k: u8, count: u8) -> bool
+fn are_terms_ok(file: &[u8], at: usize, types: &[u8], k: u8, count: u8) -> bool
     requires { ⌜ at + 80 ≤ length (now file) ⌝ }
-    ensures { λ r. ⌜ r ≡ every (termOk (sortsOf (now (sorts .entry))) k count (termAt (now (file .entry)) at)) 8 ⌝ }
+    ensures { λ r. ⌜ r ≡ every (termOk (typesOf (now (types .entry))) k count (termAt (now (file .entry)) at)) 8 ⌝ }
 {
     let mut j = 0;
     while j < 8 {
-        if !is_term_ok(file, at, sorts, k, count, j) {
+        if !is_term_ok(file, at, types, k, count, j) {
             return false;
         }
         j += 1;
@@ -84,13 +84,13 @@ fn are_terms_ok(file: &[u8], at: usize, sorts: &[u8], k: u8, count: u8) -> bool
 }
 
 // The lowest of the m constraints from an offset on that breaks its rules.
-pub fn first_bad(file: &[u8], start: usize, m: usize, sorts: &[u8], k: u8) -> Found
+pub fn first_bad(file: &[u8], start: usize, m: usize, types: &[u8], k: u8) -> Found
     requires { ⌜ start + 80 * m ≤ length (now file) ⌝ }
-    ensures { λ r. ⌜ r ≡ lowest (constraintPasses (sortsOf (now (sorts .entry))) k (now (file .entry)) start) m ⌝ }
+    ensures { λ r. ⌜ r ≡ lowest (constraintPasses (typesOf (now (types .entry))) k (now (file .entry)) start) m ⌝ }
 {
     let mut i = 0;
     while i < m {
-        if !constraint_ok(file, block_at(start, i), sorts, k) {
+        if !constraint_ok(file, block_at(start, i), types, k) {
             return Found::At(i);
         }
         i += 1;

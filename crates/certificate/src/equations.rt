@@ -5,16 +5,16 @@ use crate::matching::matches;
 use clauses::clause_of;
 use constraints::LineHead;
 use node::equation_among;
-use node::kind_among;
+use node::type_among;
 use rules::Clause;
 use rules::Named;
-use rules::Place;
+use rules::Position;
 ghost use Prim.Native.Nat.{_+_, _≤_};
 ghost use mathlib.Core.Path.{_≡_};
 ghost use lib.ListN.{length};
-ghost use Rattle.node.specs.Equations.{kindAt, equationAt};
+ghost use Rattle.node.specs.Equations.{typeAt, equationAt};
 ghost use Rattle.node.specs.Layout.{recordsOf};
-ghost use Rattle.rules.specs.Lines.{clauseIs, placeOf, equationIn};
+ghost use Rattle.rules.specs.Lines.{clauseIs, positionOf, equationIn};
 ghost use Rattle.clauses.specs.Limits.{SmallPattern};
 ghost use Rattle.certificate.specs.Content.{Readable};
 ghost use Rattle.certificate.specs.Ready.{lineWith};
@@ -47,10 +47,10 @@ fn is_clause(cert: &[u8], start: usize, m: usize, at: usize, h: LineHead, c: Cla
 }
 
 // Where offset q of a part stands, whose first offset stands at `opening`.
-fn place_of(opening: Place, q: u16) -> Place
-    ensures { λ r. ⌜ r ≡ placeOf opening q ⌝ }
+fn position_of(opening: Position, q: u16) -> Position
+    ensures { λ r. ⌜ r ≡ positionOf opening q ⌝ }
 {
-    if q == 0 { opening } else { Place::Inner }
+    if q == 0 { opening } else { Position::Inner }
 }
 
 // Rule 17, of the line at an offset: clause r of stream p at offset q, which is below `offsets`.
@@ -61,11 +61,11 @@ pub fn equation_ok(
     at: usize,
     h: LineHead,
     offsets: usize,
-    opening: Place,
+    opening: Position,
 ) -> bool
     requires { ⌜ Readable (now cert) (f .start) (f .constraints) × (at + 80 ≤ length (now cert)) ⌝ }
     requires { ⌜ ConstantsLimited (now node) (f .streams) × (offsets ≤ 9) × (f .streams ≡ recordsOf (now node)) ⌝ }
-    ensures { λ r. ⌜ r ≡ equationIn (f .streams) (kindAt (now (node .entry))) (equationAt (now (node .entry))) (constraintsFrom (now (cert .entry)) (f .start)) (f .constraints) offsets opening (lineWith (now (cert .entry)) at h) ⌝ }
+    ensures { λ r. ⌜ r ≡ equationIn (f .streams) (typeAt (now (node .entry))) (equationAt (now (node .entry))) (constraintsFrom (now (cert .entry)) (f .start)) (f .constraints) offsets opening (lineWith (now (cert .entry)) at h) ⌝ }
 {
     let n = f.streams;
     let p = h.p as usize;
@@ -73,9 +73,9 @@ pub fn equation_ok(
     if !((p < n) & (q < offsets)) {
         return false;
     }
-    let place = place_of(opening, h.q);
+    let place = position_of(opening, h.q);
     match clause_of(
-        kind_among(node, n, p),
+        type_among(node, n, p),
         equation_among(node, n, p),
         place,
         q as u8,

@@ -17,9 +17,9 @@ mod reading;
 mod refusals;
 mod search;
 mod shape;
-mod sorts;
 mod sums;
 mod terms;
+mod types;
 
 pub use file_note::note;
 pub use file_note::note_length;

@@ -10,18 +10,18 @@ use crate::property::step_property_ok;
 use crate::refusals;
 use crate::shape::shape_ok;
 use constraints::LineHead;
-use rules::Place;
+use rules::Position;
 ghost use Prim.Native.Nat.{ℕ, _+_, _*_, _<_, _≤_};
 ghost use mathlib.Core.Path.{_≡_};
 ghost use mathlib.Core.Bool.{true, cond};
 ghost use lib.IntN.{pos};
 ghost use lib.ListN.{length, replicate};
-ghost use Rattle.node.specs.Equations.{kindAt, equationAt};
+ghost use Rattle.node.specs.Equations.{typeAt, equationAt};
 ghost use Rattle.constraints.specs.Layout.{lineHeadAt};
-ghost use Rattle.constraints.specs.Rules.{sortsOf};
+ghost use Rattle.constraints.specs.Rules.{typesOf};
 ghost use Rattle.rules.specs.Joins.{joinOk};
 ghost use Rattle.rules.specs.Lines.{equationIn};
-ghost use Rattle.rules.specs.Verdict.{sortsOfNode, shapePasses, ownFault, lineFault, linePasses};
+ghost use Rattle.rules.specs.Verdict.{typesOfNode, shapePasses, ownFault, lineFault, linePasses};
 ghost use Rattle.certificate.specs.Checking.{Checking};
 ghost use Rattle.certificate.specs.Frame.{partIn};
 ghost use Rattle.certificate.specs.Ready.{LinesReady, lineWith, linesAt};
@@ -30,13 +30,13 @@ ghost use Rattle.certificate.specs.Sums.{constraintsFrom};
 // Rule 17, of line i, which stands at an offset and has this head.
 fn equation_passes(node: &[u8], cert: &[u8], f: Frame, at: usize, h: LineHead, i: usize) -> bool
     requires { ⌜ Checking (now node) (now cert) f × (at + 80 ≤ length (now cert)) ⌝ }
-    ensures { λ r. ⌜ r ≡ equationIn (f .streams) (kindAt (now (node .entry))) (equationAt (now (node .entry))) (constraintsFrom (now (cert .entry)) (f .start)) (f .constraints) (partIn f i .offsets) (partIn f i .opening) (lineWith (now (cert .entry)) at h) ⌝ }
+    ensures { λ r. ⌜ r ≡ equationIn (f .streams) (typeAt (now (node .entry))) (equationAt (now (node .entry))) (constraintsFrom (now (cert .entry)) (f .start)) (f .constraints) (partIn f i .offsets) (partIn f i .opening) (lineWith (now (cert .entry)) at h) ⌝ }
 {
     let depth = f.depth as usize;
     if i < f.base {
-        equation_ok(node, cert, f, at, h, depth, Place::Opening)
+        equation_ok(node, cert, f, at, h, depth, Position::Opening)
     } else {
-        equation_ok(node, cert, f, at, h, depth + 1, Place::Unsure)
+        equation_ok(node, cert, f, at, h, depth + 1, Position::Unsure)
     }
 }
 
@@ -110,11 +110,11 @@ pub fn line_fault(
     sums: &mut [i64],
     node: &[u8],
     cert: &[u8],
-    sorts: &[u8],
+    types: &[u8],
     f: Frame,
     i: usize,
 ) -> usize
-    requires { ⌜ Checking (now node) (now cert) f × ((x : ℕ) → sortsOf (now sorts) x ≡ sortsOfNode (now node) x) ⌝ }
+    requires { ⌜ Checking (now node) (now cert) f × ((x : ℕ) → typesOf (now types) x ≡ typesOfNode (now node) x) ⌝ }
     requires { ⌜ (i < f .base + f .step) × ((j : ℕ) → j < i → linePasses (now node) (now cert) j ≡ true) ⌝ }
     requires { ⌜ now sums ≡ replicate 576 (pos 0) ⌝ }
     ensures answer { λ r. ⌜ r ≡ lineFault (now (node .entry)) (now (cert .entry)) i ⌝ }
@@ -122,7 +122,7 @@ pub fn line_fault(
 {
     let at = block_at(f.lines, i);
     let h = line_head(cert, at);
-    if !shape_ok(cert, at, h, sorts, f.depth, f.constraints) {
+    if !shape_ok(cert, at, h, types, f.depth, f.constraints) {
         return refusals::SHAPE;
     }
     own_fault(sums, node, cert, f, at, h, i)

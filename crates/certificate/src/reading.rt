@@ -5,7 +5,7 @@ use crate::frame::frame_of;
 use crate::frame::start_of;
 use crate::layout::trailer_of;
 use crate::refusals;
-use crate::sorts::sorts_of;
+use crate::types::types_of;
 use answers::CertificateVerdict;
 use answers::Found;
 use answers::NodeVerdict;
@@ -19,8 +19,8 @@ ghost use Prim.Native.Nat.{ℕ};
 ghost use mathlib.Core.Path.{_≡_};
 ghost use Rattle.answers.specs.Answer.{certificateAnswer};
 ghost use Rattle.constraints.specs.Layout.{trailerOf};
-ghost use Rattle.constraints.specs.Rules.{sortsOf};
-ghost use Rattle.rules.specs.Verdict.{sortsOfNode, constraintsVerdict, fileVerdict, linesVerdict, andThen, verdictOf};
+ghost use Rattle.constraints.specs.Rules.{typesOf};
+ghost use Rattle.rules.specs.Verdict.{typesOfNode, constraintsVerdict, fileVerdict, linesVerdict, andThen, verdictOf};
 ghost use Rattle.certificate.specs.Checking.{NodePassed, FilePassed, openingOf};
 
 // What the checks of the certificate file and its constraints give: the trailer, or a refusal.
@@ -30,22 +30,22 @@ pub enum Opened {
 }
 
 // Rule 15, where 11 to 14 have passed.
-fn constraints_opening(node: &[u8], cert: &[u8], sorts: &[u8], t: Trailer) -> Opened
+fn constraints_opening(node: &[u8], cert: &[u8], types: &[u8], t: Trailer) -> Opened
     requires { ⌜ FilePassed (now cert) t ⌝ }
-    requires { ⌜ ((x : ℕ) → sortsOf (now sorts) x ≡ sortsOfNode (now node) x) ⌝ }
+    requires { ⌜ ((x : ℕ) → typesOf (now types) x ≡ typesOfNode (now node) x) ⌝ }
     ensures { λ r. ⌜ r ≡ openingOf (trailerOf (now (cert .entry))) (constraintsVerdict (now (node .entry)) (now (cert .entry))) ⌝ }
 {
     let start = start_of(cert, t);
     let m = t.constraints as usize;
-    if let Found::At(i) = first_bad(cert, start, m, sorts, t.depth) {
+    if let Found::At(i) = first_bad(cert, start, m, types, t.depth) {
         return Opened::Refused(refusals::CONSTRAINT, Place::Constraint(i));
     }
     Opened::Passed(t)
 }
 
 // Rules 11 to 15.
-fn opening(node: &[u8], cert: &[u8], sorts: &[u8]) -> Opened
-    requires { ⌜ ((x : ℕ) → sortsOf (now sorts) x ≡ sortsOfNode (now node) x) ⌝ }
+fn opening(node: &[u8], cert: &[u8], types: &[u8]) -> Opened
+    requires { ⌜ ((x : ℕ) → typesOf (now types) x ≡ typesOfNode (now node) x) ⌝ }
     ensures { λ r. ⌜ r ≡ openingOf (trailerOf (now (cert .entry))) (fileVerdict (now (node .entry)) (now (cert .entry))) ⌝ }
 {
     let size = cert.len();
@@ -62,7 +62,7 @@ fn opening(node: &[u8], cert: &[u8], sorts: &[u8]) -> Opened
     if !distance_ok(t, size) {
         return Opened::Refused(refusals::DISTANCE, Place::File);
     }
-    constraints_opening(node, cert, sorts, t)
+    constraints_opening(node, cert, types, t)
 }
 
 // Rules 11 to 21, where 1 to 8 have passed.
@@ -70,9 +70,9 @@ fn certificate_verdict(node: &[u8], cert: &[u8], n: usize, property: u16) -> Cer
     requires { ⌜ NodePassed (now node) n property ⌝ }
     ensures { λ r. ⌜ certificateAnswer r ≡ andThen (fileVerdict (now (node .entry)) (now (cert .entry))) (linesVerdict (now (node .entry)) (now (cert .entry))) ⌝ }
 {
-    let sorts = sorts_of(node, n);
-    match opening(node, cert, &sorts) {
-        Opened::Passed(t) => { lines_verdict(node, cert, &sorts, frame_of(cert, t, n, property)) }
+    let types = types_of(node, n);
+    match opening(node, cert, &types) {
+        Opened::Passed(t) => { lines_verdict(node, cert, &types, frame_of(cert, t, n, property)) }
         Opened::Refused(number, place) => CertificateVerdict::Refused(number, place),
     }
 }

@@ -2,27 +2,27 @@
 use crate::layout::literal_at;
 use crate::layout::multiplier_at;
 use constraints::LineHead;
-use constraints::sort_at;
+use constraints::type_at;
 ghost use Prim.Native.Nat.{_+_, _<_, _≤_};
 ghost use mathlib.Core.Path.{_≡_};
 ghost use lib.ListN.{length};
 ghost use Rattle.answers.specs.Checks.{every};
 ghost use Rattle.constraints.specs.Layout.{literalAt, multiplierAt};
-ghost use Rattle.constraints.specs.Rules.{sortsOf};
+ghost use Rattle.constraints.specs.Rules.{typesOf};
 ghost use Rattle.rules.specs.Literals.{namesAtom};
 ghost use Rattle.rules.specs.Lines.{multiplierOk, slotOk, numbersOk, shapeOk};
 ghost use Rattle.certificate.specs.Ready.{lineWith};
 ghost use Rattle.certificate.specs.Slots.{listedOk, unusedOk};
 
 // The number names an atom, at depth k with m constraints.
-fn names_atom(sorts: &[u8], k: u8, m: usize, atom: usize) -> bool
-    ensures { λ r. ⌜ r ≡ namesAtom (sortsOf (now (sorts .entry))) k m atom ⌝ }
+fn names_atom(types: &[u8], k: u8, m: usize, atom: usize) -> bool
+    ensures { λ r. ⌜ r ≡ namesAtom (typesOf (now (types .entry))) k m atom ⌝ }
 {
     if 576 <= atom {
         return atom - 576 < m;
     }
-    let sort = sort_at(sorts, atom % 64);
-    (atom / 64 <= (k as usize)) & (sort == 0)
+    let its_type = type_at(types, atom % 64);
+    (atom / 64 <= (k as usize)) & (its_type == 0)
 }
 
 // A listed literal's multiplier: from 1 to 1,000,000 in an arithmetic line, 0 in any other.
@@ -37,24 +37,24 @@ fn is_multiplier(kind: u8, multiplier: u32) -> bool
 }
 
 // Literal and multiplier j of the line at an offset, of this kind, where it is listed.
-fn is_listed(file: &[u8], at: usize, kind: u8, sorts: &[u8], k: u8, m: usize, j: usize) -> bool
+fn is_listed(file: &[u8], at: usize, kind: u8, types: &[u8], k: u8, m: usize, j: usize) -> bool
     requires { ⌜ (at + 80 ≤ length (now file)) × (j < 12) ⌝ }
-    ensures { λ r. ⌜ r ≡ listedOk (sortsOf (now (sorts .entry))) k m kind (literalAt (now (file .entry)) at) (multiplierAt (now (file .entry)) at) j ⌝ }
+    ensures { λ r. ⌜ r ≡ listedOk (typesOf (now (types .entry))) k m kind (literalAt (now (file .entry)) at) (multiplierAt (now (file .entry)) at) j ⌝ }
 {
     let literal = literal_at(file, at, j);
     let multiplier = multiplier_at(file, at, j);
-    names_atom(sorts, k, m, literal.atom()) & is_multiplier(kind, multiplier)
+    names_atom(types, k, m, literal.atom()) & is_multiplier(kind, multiplier)
 }
 
 // Each of the literals and multipliers that are listed.
-fn are_listed(file: &[u8], at: usize, h: LineHead, sorts: &[u8], k: u8, m: usize) -> bool
+fn are_listed(file: &[u8], at: usize, h: LineHead, types: &[u8], k: u8, m: usize) -> bool
     requires { ⌜ (at + 80 ≤ length (now file)) × (h .count ≤ 12) ⌝ }
-    ensures { λ r. ⌜ r ≡ every (listedOk (sortsOf (now (sorts .entry))) k m (h .kind) (literalAt (now (file .entry)) at) (multiplierAt (now (file .entry)) at)) (h .count) ⌝ }
+    ensures { λ r. ⌜ r ≡ every (listedOk (typesOf (now (types .entry))) k m (h .kind) (literalAt (now (file .entry)) at) (multiplierAt (now (file .entry)) at)) (h .count) ⌝ }
 {
     let count = h.count as usize;
     let mut j = 0;
     while j < count {
-        if !is_listed(file, at, h.kind, sorts, k, m, j) {
+        if !is_listed(file, at, h.kind, types, k, m, j) {
             return false;
         }
         j += 1;
@@ -80,11 +80,11 @@ fn are_unused(file: &[u8], at: usize, count: usize) -> bool
 }
 
 // Each of the twelve literals and multipliers.
-fn are_slots(file: &[u8], at: usize, h: LineHead, sorts: &[u8], k: u8, m: usize) -> bool
+fn are_slots(file: &[u8], at: usize, h: LineHead, types: &[u8], k: u8, m: usize) -> bool
     requires { ⌜ (at + 80 ≤ length (now file)) × (h .count ≤ 12) ⌝ }
-    ensures { λ r. ⌜ r ≡ every (slotOk (sortsOf (now (sorts .entry))) k m (h .kind) (h .count) (literalAt (now (file .entry)) at) (multiplierAt (now (file .entry)) at)) 12 ⌝ }
+    ensures { λ r. ⌜ r ≡ every (slotOk (typesOf (now (types .entry))) k m (h .kind) (h .count) (literalAt (now (file .entry)) at) (multiplierAt (now (file .entry)) at)) 12 ⌝ }
 {
-    if !are_listed(file, at, h, sorts, k, m) {
+    if !are_listed(file, at, h, types, k, m) {
         return false;
     }
     are_unused(file, at, h.count as usize)
@@ -100,9 +100,9 @@ fn are_numbers(h: LineHead) -> bool
 }
 
 // Rule 16, of the line at an offset whose head was read.
-pub fn shape_ok(file: &[u8], at: usize, h: LineHead, sorts: &[u8], k: u8, m: usize) -> bool
+pub fn shape_ok(file: &[u8], at: usize, h: LineHead, types: &[u8], k: u8, m: usize) -> bool
     requires { ⌜ at + 80 ≤ length (now file) ⌝ }
-    ensures { λ r. ⌜ r ≡ shapeOk (sortsOf (now (sorts .entry))) k m (lineWith (now (file .entry)) at h) ⌝ }
+    ensures { λ r. ⌜ r ≡ shapeOk (typesOf (now (types .entry))) k m (lineWith (now (file .entry)) at h) ⌝ }
 {
     if 12 < h.count {
         return false;
@@ -110,5 +110,5 @@ pub fn shape_ok(file: &[u8], at: usize, h: LineHead, sorts: &[u8], k: u8, m: usi
     if !((1 <= h.kind) & (h.kind <= 4) & are_numbers(h)) {
         return false;
     }
-    are_slots(file, at, h, sorts, k, m)
+    are_slots(file, at, h, types, k, m)
 }

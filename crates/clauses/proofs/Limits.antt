@@ -8,8 +8,8 @@ use native.Mathlib.Omega.{arith}
 use lib.IntN.{ℤ, pos, negℤ, natAbs}
 use lib.Signed.{leZ}
 use Rattle.integers.proofs.Abs.{abs-negℤ}
-use Rattle.node.specs.declared.equation.Kind.{Kind}
-use Rattle.node.specs.declared.equation.Kind.the-variants.{Bool as BoolKind, Int as IntKind}
+use Rattle.node.specs.declared.equation.StreamType.{StreamType}
+use Rattle.node.specs.declared.equation.StreamType.the-variants.{Bool as BoolType, Int as IntType}
 use Rattle.node.specs.declared.equation.Equation.{Equation}
 use Rattle.node.specs.declared.equation.Equation.the-variants.{Input, Constant, Not, And, Or, Same, Sum, Difference, Multiple, AtMost, Equal, If, Arrow, FollowedBy}
 use Rattle.node.proofs.WellFormedness.{all-append}
@@ -18,8 +18,8 @@ use Rattle.rules.specs.declared.pattern.Clause.{Clause}
 use Rattle.rules.specs.declared.pattern.Named.the-variants.{Is}
 use Rattle.rules.specs.declared.pattern.Pattern.{Pattern}
 use Rattle.rules.specs.declared.pattern.Pattern.the-variants.{Yes, No}
-use Rattle.rules.specs.declared.pattern.Place.{Place}
-use Rattle.rules.specs.declared.pattern.Place.the-variants.{Opening, Unsure, Inner}
+use Rattle.rules.specs.declared.pattern.Position.{Position}
+use Rattle.rules.specs.declared.pattern.Position.the-variants.{Opening, Unsure, Inner}
 use Rattle.rules.specs.Clauses.{most, less, clause1, clause2, clause3, equalTo, sameAs, guarded, firstThen, clauses, numbered}
 use Rattle.rules.proofs.ClauseForms.{all-map}
 use Rattle.clauses.specs.Operators.{Has}
@@ -50,57 +50,57 @@ small-equal-to s a x b y k h l = (
   (small1 _ (record { a = omega arith; b = h; c = l }), tt),
 )
 
-small-same-as : (kind : Kind) (s t : ℕ) → AllSmall (sameAs kind s t)
-small-same-as BoolKind s t = (small2 (No s) (Yes t) tt tt, (small2 (Yes s) (No t) tt tt, tt))
-small-same-as IntKind s t = (small1 (most s t) (small-most s t), (small1 (most t s) (small-most t s), tt))
+small-same-as : (ty : StreamType) (s t : ℕ) → AllSmall (sameAs ty s t)
+small-same-as BoolType s t = (small2 (No s) (Yes t) tt tt, (small2 (Yes s) (No t) tt tt, tt))
+small-same-as IntType s t = (small1 (most s t) (small-most s t), (small1 (most t s) (small-most t s), tt))
 
-small-guarded : (kind : Kind) (p : Pattern) (s t : ℕ) → SmallPattern p → AllSmall (map (guarded p) (sameAs kind s t))
-small-guarded kind p s t h =
+small-guarded : (ty : StreamType) (p : Pattern) (s t : ℕ) → SmallPattern p → AllSmall (map (guarded p) (sameAs ty s t))
+small-guarded ty p s t h =
     all-map SmallClause SmallClause (guarded p)
     (λ c l. record { first = h; second = l .first; third = l .second })
-    (sameAs kind s t) (small-same-as kind s t)
+    (sameAs ty s t) (small-same-as ty s t)
 
-small-first-then : (kind : Kind) (place : Place) (s x y : ℕ) → AllSmall (firstThen kind place s x y)
-small-first-then kind Opening s x y = small-same-as kind s x
-small-first-then kind Unsure s x y = tt
-small-first-then kind Inner s x y = small-same-as kind s y
+small-first-then : (ty : StreamType) (place : Position) (s x y : ℕ) → AllSmall (firstThen ty place s x y)
+small-first-then ty Opening s x y = small-same-as ty s x
+small-first-then ty Unsure s x y = tt
+small-first-then ty Inner s x y = small-same-as ty s y
 
 small-bool : (t : Bool) (s : ℕ) → SmallPattern (cond t (No s) (Yes s))
 small-bool true s = tt
 small-bool false s = tt
 
 module _ (now back : ℕ → ℕ) (s : ℕ) where
-  pub small-clauses : (kind : Kind) (e : Equation) (place : Place) → natAbs (constantOf e) ≤ 1000000000 → AllSmall (clauses kind e place now back s)
-  small-clauses kind Input place h = tt
-  small-clauses BoolKind (Constant k) place h = (small1 _ (small-bool (leZ k (pos 0)) s), tt)
-  small-clauses IntKind (Constant k) place h = small-equal-to s (pos 0) s (pos 0) s k (omega arith) (omega arith)
-  small-clauses kind (Not a) place h = (
+  pub small-clauses : (ty : StreamType) (e : Equation) (place : Position) → natAbs (constantOf e) ≤ 1000000000 → AllSmall (clauses ty e place now back s)
+  small-clauses ty Input place h = tt
+  small-clauses BoolType (Constant k) place h = (small1 _ (small-bool (leZ k (pos 0)) s), tt)
+  small-clauses IntType (Constant k) place h = small-equal-to s (pos 0) s (pos 0) s k (omega arith) (omega arith)
+  small-clauses ty (Not a) place h = (
     small2 (Yes s) (Yes (now a)) tt tt,
     (small2 (No s) (No (now a)) tt tt, tt),
   )
-  small-clauses kind (And a b) place h = (
+  small-clauses ty (And a b) place h = (
     small2 (No s) (Yes (now a)) tt tt,
     (small2 (No s) (Yes (now b)) tt tt, (small3 (Yes s) (No (now a)) (No (now b)) tt tt tt, tt)),
   )
-  small-clauses kind (Or a b) place h = (
+  small-clauses ty (Or a b) place h = (
     small2 (Yes s) (No (now a)) tt tt,
     (small2 (Yes s) (No (now b)) tt tt, (small3 (No s) (Yes (now a)) (Yes (now b)) tt tt tt, tt)),
   )
-  small-clauses kind (Same a b) place h = (
+  small-clauses ty (Same a b) place h = (
     small3 (No s) (No (now a)) (Yes (now b)) tt tt tt,
     (
       small3 (No s) (Yes (now a)) (No (now b)) tt tt tt,
       (small3 (Yes s) (Yes (now a)) (Yes (now b)) tt tt tt, (small3 (Yes s) (No (now a)) (No (now b)) tt tt tt, tt)),
     ),
   )
-  small-clauses kind (Sum a b) place h = small-equal-to s (pos 1) (now a) (pos 1) (now b) (pos 0) (omega arith) (omega arith)
-  small-clauses kind (Difference a b) place h = small-equal-to s (pos 1) (now a) (negℤ (pos 1)) (now b) (pos 0) (omega arith) (omega arith)
-  small-clauses kind (Multiple k a) place h = small-equal-to s k (now a) (pos 0) (now a) (pos 0) h (omega arith)
-  small-clauses kind (AtMost a b) place h = (
+  small-clauses ty (Sum a b) place h = small-equal-to s (pos 1) (now a) (pos 1) (now b) (pos 0) (omega arith) (omega arith)
+  small-clauses ty (Difference a b) place h = small-equal-to s (pos 1) (now a) (negℤ (pos 1)) (now b) (pos 0) (omega arith) (omega arith)
+  small-clauses ty (Multiple k a) place h = small-equal-to s k (now a) (pos 0) (now a) (pos 0) h (omega arith)
+  small-clauses ty (AtMost a b) place h = (
     small2 (No s) (most (now a) (now b)) tt (small-most (now a) (now b)),
     (small2 (Yes s) (less (now b) (now a)) tt (small-less (now b) (now a)), tt),
   )
-  small-clauses kind (Equal a b) place h = (
+  small-clauses ty (Equal a b) place h = (
     small2 (No s) (most (now a) (now b)) tt (small-most (now a) (now b)),
     (
       small2 (No s) (most (now b) (now a)) tt (small-most (now b) (now a)),
@@ -110,12 +110,12 @@ module _ (now back : ℕ → ℕ) (s : ℕ) where
       ),
     ),
   )
-  small-clauses kind (If c a b) place h =
-      all-append _ (map (guarded (No (now c))) (sameAs kind s (now a))) (map (guarded (Yes (now c))) (sameAs kind s (now b)))
-      (small-guarded kind (No (now c)) s (now a) tt)
-      (small-guarded kind (Yes (now c)) s (now b) tt)
-  small-clauses kind (Arrow a b) place h = small-first-then kind place s (now a) (now b)
-  small-clauses kind (FollowedBy a b) place h = small-first-then kind place s (now a) (back b)
+  small-clauses ty (If c a b) place h =
+      all-append _ (map (guarded (No (now c))) (sameAs ty s (now a))) (map (guarded (Yes (now c))) (sameAs ty s (now b)))
+      (small-guarded ty (No (now c)) s (now a) tt)
+      (small-guarded ty (Yes (now c)) s (now b) tt)
+  small-clauses ty (Arrow a b) place h = small-first-then ty place s (now a) (now b)
+  small-clauses ty (FollowedBy a b) place h = small-first-then ty place s (now a) (back b)
 
 -- so has the clause of a number
 pub small-named : (cs : List Clause) (r : ℕ) (c : Clause) → AllSmall cs → numbered cs r ≡ Is c → SmallClause c

@@ -10,8 +10,8 @@ use lib.ListN.{length}
 use Rattle.node.specs.Reads.{All}
 use Rattle.rules.specs.declared.pattern.Clause.{Clause}
 use Rattle.rules.specs.declared.pattern.Named.the-variants.{Missing}
-use Rattle.node.specs.declared.equation.Kind.{Kind}
-use Rattle.node.specs.declared.equation.Kind.the-variants.{Bool as BoolKind, Int as IntKind}
+use Rattle.node.specs.declared.equation.StreamType.{StreamType}
+use Rattle.node.specs.declared.equation.StreamType.the-variants.{Bool as BoolType, Int as IntType}
 use Rattle.rules.specs.declared.pattern.Pattern.{Pattern}
 use Rattle.rules.specs.declared.pattern.Pattern.the-variants.{Most}
 use Rattle.rules.specs.Clauses.{linear, clause1, sameAs, guarded, numbered}
@@ -73,9 +73,9 @@ module _ (p q : Pattern) (ds : List Clause) where
   guarded-then (c ∷ cs) zero t e = absurd (omega arith)
   guarded-then (c ∷ cs) (suc r) t e = guarded-then cs r t (omega arith)
 
-pub two-clauses : (kind : Kind) (s t : ℕ) → length (sameAs kind s t) ≡ 2
-two-clauses BoolKind s t = refl
-two-clauses IntKind s t = refl
+pub two-clauses : (ty : StreamType) (s t : ℕ) → length (sameAs ty s t) ≡ 2
+two-clauses BoolType s t = refl
+two-clauses IntType s t = refl
 
 -- what each of a list has, the clause of a number has
 pub number-has : (P : Clause → Type 0) (cs : List Clause) (r : ℕ) → All P cs → Has P (numbered cs r)
@@ -83,6 +83,6 @@ number-has P [] r h = tt
 number-has P (c ∷ cs) zero h = h .0
 number-has P (c ∷ cs) (suc r) h = number-has P cs r (h .1)
 
-pub same-short : (kind : Kind) (s t : ℕ) → All Short (sameAs kind s t)
-same-short BoolKind s t = (omega arith, (omega arith, tt))
-same-short IntKind s t = (omega arith, (omega arith, tt))
+pub same-short : (ty : StreamType) (s t : ℕ) → All Short (sameAs ty s t)
+same-short BoolType s t = (omega arith, (omega arith, tt))
+same-short IntType s t = (omega arith, (omega arith, tt))

@@ -1,17 +1,17 @@
 -- An operator's clauses where its operands are variables already, and so neither offset nor place matters.
 use Prim.Native.Nat.{ℕ, _≤_}
 use mathlib.Core.List.{List}
-use Rattle.node.specs.declared.equation.Kind.{Kind}
+use Rattle.node.specs.declared.equation.StreamType.{StreamType}
 use Rattle.node.specs.declared.equation.Equation.{Equation}
 use Rattle.rules.specs.declared.pattern.Clause.{Clause}
 use Rattle.rules.specs.declared.pattern.Named.{Named}
 use Rattle.rules.specs.declared.pattern.Named.the-variants.{Is, Missing}
 use Rattle.rules.specs.declared.pattern.Pattern.{Pattern}
-use Rattle.rules.specs.declared.pattern.Place.the-variants.{Inner}
+use Rattle.rules.specs.declared.pattern.Position.the-variants.{Inner}
 use Rattle.rules.specs.Clauses.{clauses, guarded}
 
-abbrev pub over : Kind → Equation → (s : ℕ) → List Clause
-over kind e s = clauses kind e Inner (λ x. x) (λ x. x) s
+abbrev pub over : StreamType → Equation → (s : ℕ) → List Clause
+over ty e s = clauses ty e Inner (λ x. x) (λ x. x) s
 
 -- a literal put in front of the clause of a number, which has one or two
 abbrev pub guardedNamed : Pattern → Named → Named

@@ -8,14 +8,14 @@ use crate::lists::of_two;
 use crate::lists::one;
 use crate::lists::three;
 use crate::lists::two;
-use node::Kind;
+use node::StreamType;
 use rules::Clause;
 use rules::Linear;
 use rules::Named;
 use rules::Pattern;
 ghost use mathlib.Core.Path.{_≡_};
 ghost use lib.IntN.{negℤ};
-ghost use Rattle.node.specs.declared.equation.Kind.the-variants.{Bool as BoolKind, Int as IntKind};
+ghost use Rattle.node.specs.declared.equation.StreamType.the-variants.{Bool as BoolType, Int as IntType};
 ghost use Rattle.node.specs.declared.equation.Equation.the-variants.{Constant, Not, And, Or, Same, Multiple, AtMost, Equal, If};
 ghost use Rattle.rules.specs.Clauses.{equalTo, sameAs, numbered};
 ghost use Rattle.clauses.specs.Operators.{over, guardedNamed, Has, Short};
@@ -59,36 +59,36 @@ pub fn equal_to(s: u32, a: i32, x: u32, b: i32, y: u32, k: i32, r: u16) -> Named
 }
 
 // "{!s, t} {s, !t} or {s ≤ t} {t ≤ s}"
-pub fn same_as(kind: Kind, s: u32, t: u32, r: u16) -> Named
-    ensures { λ z. ⌜ z ≡ numbered (sameAs kind s t) r ⌝ }
+pub fn same_as(ty: StreamType, s: u32, t: u32, r: u16) -> Named
+    ensures { λ z. ⌜ z ≡ numbered (sameAs ty s t) r ⌝ }
 {
-    match kind {
-        Kind::Bool => of_two(
+    match ty {
+        StreamType::Bool => of_two(
             two(Pattern::No(s), Pattern::Yes(t)),
             two(Pattern::Yes(s), Pattern::No(t)),
             r,
         ),
-        Kind::Int => of_two(one(most(s, t)), one(most(t, s)), r),
+        StreamType::Int => of_two(one(most(s, t)), one(most(t, s)), r),
     }
 }
 
 // Operator 1.
-pub fn constant(kind: Kind, s: u32, k: i32, r: u16) -> Named
-    ensures { λ z. ⌜ z ≡ numbered (over kind (Constant k) s) r ⌝ }
+pub fn constant(ty: StreamType, s: u32, k: i32, r: u16) -> Named
+    ensures { λ z. ⌜ z ≡ numbered (over ty (Constant k) s) r ⌝ }
 {
-    match kind {
-        Kind::Bool => if k <= 0 {
+    match ty {
+        StreamType::Bool => if k <= 0 {
             of_one(one(Pattern::No(s)), r)
         } else {
             of_one(one(Pattern::Yes(s)), r)
         },
-        Kind::Int => equal_to(s, 0, s, 0, s, k, r),
+        StreamType::Int => equal_to(s, 0, s, 0, s, k, r),
     }
 }
 
 // Operator 2.
 pub fn not(s: u32, a: u32, r: u16) -> Named
-    ensures { λ z. ⌜ z ≡ numbered (over BoolKind (Not a) s) r ⌝ }
+    ensures { λ z. ⌜ z ≡ numbered (over BoolType (Not a) s) r ⌝ }
 {
     of_two(
         two(Pattern::Yes(s), Pattern::Yes(a)),
@@ -99,7 +99,7 @@ pub fn not(s: u32, a: u32, r: u16) -> Named
 
 // Operator 3.
 pub fn and(s: u32, a: u32, b: u32, r: u16) -> Named
-    ensures { λ z. ⌜ z ≡ numbered (over BoolKind (And a b) s) r ⌝ }
+    ensures { λ z. ⌜ z ≡ numbered (over BoolType (And a b) s) r ⌝ }
 {
     of_three(
         two(Pattern::No(s), Pattern::Yes(a)),
@@ -111,7 +111,7 @@ pub fn and(s: u32, a: u32, b: u32, r: u16) -> Named
 
 // Operator 4.
 pub fn or(s: u32, a: u32, b: u32, r: u16) -> Named
-    ensures { λ z. ⌜ z ≡ numbered (over BoolKind (Or a b) s) r ⌝ }
+    ensures { λ z. ⌜ z ≡ numbered (over BoolType (Or a b) s) r ⌝ }
 {
     of_three(
         two(Pattern::Yes(s), Pattern::No(a)),
@@ -123,7 +123,7 @@ pub fn or(s: u32, a: u32, b: u32, r: u16) -> Named
 
 // Operator 5.
 pub fn same(s: u32, a: u32, b: u32, r: u16) -> Named
-    ensures { λ z. ⌜ z ≡ numbered (over BoolKind (Same a b) s) r ⌝ }
+    ensures { λ z. ⌜ z ≡ numbered (over BoolType (Same a b) s) r ⌝ }
 {
     of_four(
         three(Pattern::No(s), Pattern::No(a), Pattern::Yes(b)),
@@ -136,14 +136,14 @@ pub fn same(s: u32, a: u32, b: u32, r: u16) -> Named
 
 // Operator 8.
 pub fn multiple(s: u32, k: i32, a: u32, r: u16) -> Named
-    ensures { λ z. ⌜ z ≡ numbered (over IntKind (Multiple k a) s) r ⌝ }
+    ensures { λ z. ⌜ z ≡ numbered (over IntType (Multiple k a) s) r ⌝ }
 {
     equal_to(s, k, a, 0, a, 0, r)
 }
 
 // Operator 9.
 pub fn at_most(s: u32, a: u32, b: u32, r: u16) -> Named
-    ensures { λ z. ⌜ z ≡ numbered (over BoolKind (AtMost a b) s) r ⌝ }
+    ensures { λ z. ⌜ z ≡ numbered (over BoolType (AtMost a b) s) r ⌝ }
 {
     of_two(
         two(Pattern::No(s), most(a, b)),
@@ -154,7 +154,7 @@ pub fn at_most(s: u32, a: u32, b: u32, r: u16) -> Named
 
 // Operator 10.
 pub fn equal(s: u32, a: u32, b: u32, r: u16) -> Named
-    ensures { λ z. ⌜ z ≡ numbered (over BoolKind (Equal a b) s) r ⌝ }
+    ensures { λ z. ⌜ z ≡ numbered (over BoolType (Equal a b) s) r ⌝ }
 {
     of_three(
         two(Pattern::No(s), most(a, b)),
@@ -185,12 +185,12 @@ fn guarded(p: Pattern, clause: Named) -> Named
 }
 
 // Operator 11: two clauses of each branch.
-pub fn if_then_else(kind: Kind, s: u32, a: u32, b: u32, c: u32, r: u16) -> Named
-    ensures { λ z. ⌜ z ≡ numbered (over kind (If c a b) s) r ⌝ }
+pub fn if_then_else(ty: StreamType, s: u32, a: u32, b: u32, c: u32, r: u16) -> Named
+    ensures { λ z. ⌜ z ≡ numbered (over ty (If c a b) s) r ⌝ }
 {
     if r < 2 {
-        guarded(Pattern::No(c), same_as(kind, s, a, r))
+        guarded(Pattern::No(c), same_as(ty, s, a, r))
     } else {
-        guarded(Pattern::Yes(c), same_as(kind, s, b, r - 2))
+        guarded(Pattern::Yes(c), same_as(ty, s, b, r - 2))
     }
 }

@@ -12,9 +12,9 @@ use crate::operators::same;
 use crate::operators::same_as;
 use constraints::var;
 use node::Equation;
-use node::Kind;
+use node::StreamType;
 use rules::Named;
-use rules::Place;
+use rules::Position;
 ghost use Prim.Native.Nat.{_-_};
 ghost use mathlib.Core.Path.{_≡_};
 ghost use Rattle.constraints.specs.Linear.{variable};
@@ -32,24 +32,24 @@ fn back(offset: u8, x: u16) -> u32
 }
 
 // Operators 12 and 13: at the window's start the first operand, or no clause where that may be any instant; later the second.
-fn later(kind: Kind, place: Place, s: u32, first: u32, second: u32, r: u16) -> Named
-    ensures { λ z. ⌜ z ≡ numbered (firstThen kind place s first second) r ⌝ }
+fn later(ty: StreamType, place: Position, s: u32, first: u32, second: u32, r: u16) -> Named
+    ensures { λ z. ⌜ z ≡ numbered (firstThen ty place s first second) r ⌝ }
 {
     match place {
-        Place::Opening => same_as(kind, s, first, r),
-        Place::Unsure => Named::Missing,
-        Place::Inner => same_as(kind, s, second, r),
+        Position::Opening => same_as(ty, s, first, r),
+        Position::Unsure => Named::Missing,
+        Position::Inner => same_as(ty, s, second, r),
     }
 }
 
 // Clause r, counted from 0, of stream s at an offset.
-pub fn clause_of(kind: Kind, e: Equation, place: Place, offset: u8, s: u16, r: u16) -> Named
-    ensures { λ z. ⌜ z ≡ numbered (clauses kind e place (variable offset) (variable (offset - 1)) (variable offset s)) r ⌝ }
+pub fn clause_of(ty: StreamType, e: Equation, place: Position, offset: u8, s: u16, r: u16) -> Named
+    ensures { λ z. ⌜ z ≡ numbered (clauses ty e place (variable offset) (variable (offset - 1)) (variable offset s)) r ⌝ }
 {
     let s = var(offset, s);
     match e {
         Equation::Input => Named::Missing,
-        Equation::Constant(k) => constant(kind, s, k, r),
+        Equation::Constant(k) => constant(ty, s, k, r),
         Equation::Not(a) => not(s, var(offset, a), r),
         Equation::And(a, b) => and(s, var(offset, a), var(offset, b), r),
         Equation::Or(a, b) => or(s, var(offset, a), var(offset, b), r),
@@ -65,7 +65,7 @@ pub fn clause_of(kind: Kind, e: Equation, place: Place, offset: u8, s: u16, r: u
             otherwise,
         } => {
             if_then_else(
-                kind,
+                ty,
                 s,
                 var(offset, then),
                 var(offset, otherwise),
@@ -73,7 +73,7 @@ pub fn clause_of(kind: Kind, e: Equation, place: Place, offset: u8, s: u16, r: u
                 r,
             )
         }
-        Equation::Arrow(a, b) => later(kind, place, s, var(offset, a), var(offset, b), r),
-        Equation::FollowedBy(a, b) => later(kind, place, s, var(offset, a), back(offset, b), r),
+        Equation::Arrow(a, b) => later(ty, place, s, var(offset, a), var(offset, b), r),
+        Equation::FollowedBy(a, b) => later(ty, place, s, var(offset, a), back(offset, b), r),
     }
 }

@@ -24,12 +24,12 @@ unfoldable pub distanceOk : Trailer → (size : ℕ) → Bool
 distanceOk t size = eqb (t .distance) (sizeOf t) && leb (t .distance) size
 
 -- a node's streams, as a certificate's rules see them: 0 a bool, 1 an int, anything else none
-abbrev pub Sorts : Type 0
-Sorts = ℕ → ℕ
+abbrev pub Types : Type 0
+Types = ℕ → ℕ
 
 -- those of a list, one a stream
-abbrev pub sortsOf : List ℕ → Sorts
-sortsOf l x = getD l x 2
+abbrev pub typesOf : List ℕ → Types
+typesOf l x = getD l x 2
 
 abbrev pub between : (low z high : ℤ) → Bool
 between low z high = leZ low z && leZ z high
@@ -43,9 +43,9 @@ abbrev pub coefficientLimit : ℤ
 coefficientLimit = pos 1000000000
 
 -- "Used terms name int streams .. and have non-zero coefficients within ±1,000,000,000"; "u8 offset (0 to k), zero byte"
-unfoldable pub usedOk : Sorts → (k : ℕ) → Term → Bool
-usedOk sorts k t =
-    eqb (sorts (t .stream)) 1
+unfoldable pub usedOk : Types → (k : ℕ) → Term → Bool
+usedOk types k t =
+    eqb (types (t .stream)) 1
     && leb (t .offset) k
     && eqb (t .zero) 0
     && between (negℤ coefficientLimit) (t .coefficient) coefficientLimit
@@ -60,18 +60,18 @@ unfoldable pub unusedOk : Term → Bool
 unusedOk t = eqb (t .stream) 0 && eqb (t .offset) 0 && eqb (t .zero) 0 && between (pos 0) (t .coefficient) (pos 0)
 
 -- term j of a constraint that uses the first `count`
-unfoldable pub termOk : Sorts → (k count : ℕ) → (ℕ → Term) → (j : ℕ) → Bool
-termOk sorts k count term j =
-    cond (leb count j) (unusedOk (term j)) (usedOk sorts k (term j) && (eqb j 0 || rises (term (j - 1)) (term j)))
+unfoldable pub termOk : Types → (k count : ℕ) → (ℕ → Term) → (j : ℕ) → Bool
+termOk types k count term j =
+    cond (leb count j) (unusedOk (term j)) (usedOk types k (term j) && (eqb j 0 || rises (term (j - 1)) (term j)))
 
 -- 15: any constraint rule
-unfoldable pub constraintOk : Sorts → (k : ℕ) → Constraint → Bool
-constraintOk sorts k c =
+unfoldable pub constraintOk : Types → (k : ℕ) → Constraint → Bool
+constraintOk types k c =
     leb (c .head .count) 8
     && c .head .zeros
     && between (negℤ boundLimit) (c .head .bound) boundLimit
-    && every (termOk sorts k (c .head .count) (c .term)) 8
+    && every (termOk types k (c .head .count) (c .term)) 8
 
 -- constraint i of those from an offset on keeps its rules
-abbrev pub constraintPasses : Sorts → (k : ℕ) → List ℕ → (start i : ℕ) → Bool
-constraintPasses sorts k s start i = constraintOk sorts k (constraintAt s (start + 80 * i))
+abbrev pub constraintPasses : Types → (k : ℕ) → List ℕ → (start i : ℕ) → Bool
+constraintPasses types k s start i = constraintOk types k (constraintAt s (start + 80 * i))

@@ -10,5 +10,5 @@ pub use layout::Trailer;
 pub use rules::counts_ok;
 pub use rules::distance_ok;
 pub use rules::fixed_ok;
-pub use rules::sort_at;
+pub use rules::type_at;
 pub use variables::var;

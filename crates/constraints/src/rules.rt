@@ -1,7 +1,7 @@
 // Rules 12 to 14, each as one test of the trailer.
 use crate::layout::Trailer;
 ghost use mathlib.Core.Path.{_≡_};
-ghost use Rattle.constraints.specs.Rules.{fixedOk, countsOk, distanceOk, sortsOf};
+ghost use Rattle.constraints.specs.Rules.{fixedOk, countsOk, distanceOk, typesOf};
 
 // Rule 12.
 pub fn fixed_ok(t: Trailer) -> bool
@@ -29,8 +29,8 @@ pub fn distance_ok(t: Trailer, size: usize) -> bool
 }
 
 // What a stream is: 0 a bool, 1 an int, else none.
-pub fn sort_at(sorts: &[u8], x: usize) -> u8
-    ensures { λ r. ⌜ r ≡ sortsOf (now (sorts .entry)) x ⌝ }
+pub fn type_at(types: &[u8], x: usize) -> u8
+    ensures { λ r. ⌜ r ≡ typesOf (now (types .entry)) x ⌝ }
 {
-    if x < sorts.len() { sorts[x] } else { 2 }
+    if x < types.len() { types[x] } else { 2 }
 }

@@ -8,7 +8,7 @@ use native.Mathlib.Numerals.{add-one}
 use native.Mathlib.Omega.{arith}
 use borrow.Author.Tests.{eqb-true, lt-ltb}
 use lib.ListN.{length}
-use Rattle.node.specs.declared.equation.Kind.the-variants.{Bool as BoolKind}
+use Rattle.node.specs.declared.equation.StreamType.the-variants.{Bool as BoolType}
 use Rattle.node.specs.declared.equation.Equation.{Equation}
 use Rattle.node.specs.declared.equation.Equation.the-variants.{Input}
 use Rattle.node.specs.Equations.{fieldsOf, decoded}
@@ -38,7 +38,7 @@ module _ (s : List ℕ) where
 -- an equation is an input where it is `Input`, and nowhere else
 pub input-equation : (e : Equation) → isInputEquation e ≡ true → e ≡ Input
 unfolding decoded
-input-equation e t = sym (decoded-encoded BoolKind e) ∙ rw (eqb-true (fieldsOf e .op) 0 t)
+input-equation e t = sym (decoded-encoded BoolType e) ∙ rw (eqb-true (fieldsOf e .op) 0 t)
 
 pub equation-input : (e : Equation) → e ≡ Input → isInputEquation e ≡ true
 equation-input e t = rw t

@@ -7,7 +7,7 @@ use Prim.Native.Nat.{ℕ}
 use Rattle.answers.specs.declared.Place.{Place}
 use Rattle.answers.specs.declared.Place.the-variants.{File, Record as AtRecord}
 use Rattle.answers.specs.Answer.{accepted, refused, NodeValues}
-use Rattle.answers.proofs.InARow.{by-check, by-check-all}
+use Rattle.answers.proofs.Checks.{by-check, by-check-all}
 use Rattle.answers.proofs.Lowest.{none, all, first}
 use Rattle.node.specs.Layout.{streamsOf, propertyOf}
 use Rattle.node.specs.Verdict.{recordsVerdict, verdictOf}

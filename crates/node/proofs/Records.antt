@@ -10,9 +10,9 @@ use borrow.Author.Tests.{leb-true}
 use lib.Dec.{leb}
 use lib.ListN.{length}
 use Rattle.answers.proofs.Tests.{both-true}
-use Rattle.node.specs.Equations.{kindAt, equationAt, kindAmong, equationAmong}
+use Rattle.node.specs.Equations.{typeAt, equationAt, typeAmong, equationAmong}
 use Rattle.node.specs.Inputs.{isInput, isInputAmong}
-use Rattle.node.specs.Layout.{recordsOf, streamsOf, sizeOf, recordOf, typeOf, recordAmong, typeAmong}
+use Rattle.node.specs.Layout.{recordsOf, streamsOf, sizeOf, recordOf, typeByteOf, recordAmong, typeByteAmong}
 
 -- a file has no more records than its trailer says
 pub records-le : (s : List ℕ) → recordsOf s ≤ streamsOf s
@@ -41,11 +41,11 @@ module _ (s : List ℕ) (n : ℕ) (e : n ≡ recordsOf s) (i : ℕ) where
   pub record-among : recordAmong s n i ≡ recordOf s i
   record-among = rw e
 
-  pub type-among : typeAmong s n i ≡ typeOf s i
-  type-among = rw e
+  pub type-byte-among : typeByteAmong s n i ≡ typeByteOf s i
+  type-byte-among = rw e
 
-  pub kind-among : kindAmong s n i ≡ kindAt s i
-  kind-among = rw e
+  pub type-among : typeAmong s n i ≡ typeAt s i
+  type-among = rw e
 
   pub equation-among : equationAmong s n i ≡ equationAt s i
   equation-among = rw e

@@ -15,10 +15,10 @@ use Rattle.node.specs.declared.table.Operand.the-variants.{Unused, Now, 
 use Rattle.node.specs.declared.table.Row.{Row}
 use Rattle.node.specs.declared.table.Wanted.{Wanted}
 use Rattle.node.specs.declared.table.Wanted.the-variants.{ABool, AnInt, Own}
-use Rattle.node.specs.Equations.{kindOf, kindAmong, kindAt, decoded, encoded}
-use Rattle.node.specs.Layout.{streamsOf, recordOf, typeOf}
+use Rattle.node.specs.Equations.{typeOf, typeAmong, typeAt, decoded, encoded}
+use Rattle.node.specs.Layout.{streamsOf, recordOf, typeByteOf}
 use Rattle.node.specs.Outcome.{NodeRules}
-use Rattle.node.specs.Reads.{reading, rowReads, rowFor, reads, wantedKind, All, ReadOk, InRange, WellFormedFile}
+use Rattle.node.specs.Reads.{reading, rowReads, rowFor, reads, wantedType, All, ReadOk, InRange, WellFormedFile}
 use Rattle.node.specs.Rules.{placed, operandsOk, hasType, typed, typesOk, propertyOk}
 use Rattle.node.specs.Table.{rowOf}
 use Rattle.node.specs.Verdict.{verdictOf}
@@ -31,13 +31,13 @@ all-append P [] ys ps qs = qs
 all-append P (x ∷ xs) ys ps qs = (ps .0, all-append P xs ys (ps .1) qs)
 
 -- a type byte that is the wanted one stands for the wanted type
-typed-is : (wanted : Wanted) (own kind : ℕ) → hasType wanted own kind ≡ true → kindOf kind ≡ wantedKind (kindOf own) wanted
-typed-is ABool own kind e = rw e
-typed-is AnInt own kind e = rw (eqb-true kind 1 e)
-typed-is Own own kind e = ap kindOf (eqb-true kind own e)
+typed-is : (wanted : Wanted) (own ty : ℕ) → hasType wanted own ty ≡ true → typeOf ty ≡ wantedType (typeOf own) wanted
+typed-is ABool own ty e = rw e
+typed-is AnInt own ty e = rw (eqb-true ty 1 e)
+typed-is Own own ty e = ap typeOf (eqb-true ty own e)
 
 module _ (n i : ℕ) (types : ℕ → ℕ) where
-  operand-ok : (operand : Operand) (x : ℕ) → placed operand n i x ≡ true → typed operand (types i) (types x) ≡ true → All (ReadOk n (λ j. kindOf (types j)) i) (reading operand x)
+  operand-ok : (operand : Operand) (x : ℕ) → placed operand n i x ≡ true → typed operand (types i) (types x) ≡ true → All (ReadOk n (λ j. typeOf (types j)) i) (reading operand x)
   operand-ok Unused x p h = tt
   operand-ok (Now wanted) x p h =
       let both = both-true (ltb x n) (ltb x i) p in
@@ -56,20 +56,20 @@ module _ (s : List ℕ) (rules : NodeRules s) (i : ℕ) (l : i < streamsOf s) wh
   row = rowOf (r .op)
 
   -- rule 7, operand by operand
-  types : (hasType (row .own) (r .kind) (r .kind) ≡ true) × (typed (row .a) (r .kind) (typeOf s (r .a)) ≡ true) × (typed (row .b) (r .kind) (typeOf s (r .b)) ≡ true) × (typed (row .c) (r .kind) (typeOf s (r .c)) ≡ true)
+  types : (hasType (row .own) (r .ty) (r .ty) ≡ true) × (typed (row .a) (r .ty) (typeByteOf s (r .a)) ≡ true) × (typed (row .b) (r .ty) (typeByteOf s (r .b)) ≡ true) × (typed (row .c) (r .ty) (typeByteOf s (r .c)) ≡ true)
   unfolding typesOk
   types =
-      let own = hasType (row .own) (r .kind) (r .kind) in
-      let a = typed (row .a) (r .kind) (typeOf s (r .a)) in
-      let b = typed (row .b) (r .kind) (typeOf s (r .b)) in
-      let c = typed (row .c) (r .kind) (typeOf s (r .c)) in
+      let own = hasType (row .own) (r .ty) (r .ty) in
+      let a = typed (row .a) (r .ty) (typeByteOf s (r .a)) in
+      let b = typed (row .b) (r .ty) (typeByteOf s (r .b)) in
+      let c = typed (row .c) (r .ty) (typeByteOf s (r .c)) in
       let three = both-true (own && a && b) c (rules .types i l) in
       let two = both-true (own && a) b (three .0) in
       let one = both-true own a (two .0) in
       (one .0, one .1, two .1, three .1)
 
   -- rules 6 and 7
-  operands-ok : All (ReadOk n (λ j. kindOf (typeOf s j)) i) (rowReads row r)
+  operands-ok : All (ReadOk n (λ j. typeOf (typeByteOf s j)) i) (rowReads row r)
   unfolding operandsOk
   operands-ok =
       let a = placed (row .a) n i (r .a) in
@@ -77,22 +77,22 @@ module _ (s : List ℕ) (rules : NodeRules s) (i : ℕ) (l : i < streamsOf s) wh
       let c = placed (row .c) n i (r .c) in
       let two = both-true (a && b) c (rules .operands i l) in
       let one = both-true a b (two .0) in
-      let ok = operand-ok n i (typeOf s) in
+      let ok = operand-ok n i (typeByteOf s) in
       all-append _ (reading (row .a) (r .a)) _ (ok (row .a) (r .a) (one .0) (types .1))
       (all-append _ (reading (row .b) (r .b)) _ (ok (row .b) (r .b) (one .1) (types .2))
       (ok (row .c) (r .c) (two .1) (types .3)))
 
   -- what the row says of the record, it says of the equation
-  of-equation : (P : Record → Type 0) → P r → P (encoded (kindOf (r .kind)) (decoded r))
+  of-equation : (P : Record → Type 0) → P r → P (encoded (typeOf (r .ty)) (decoded r))
   of-equation P = by-record P r (rules .shapes i l)
 
 pub well-formed : (s : List ℕ) → NodeRules s → WellFormedFile s
-unfolding kindAmong propertyOk reads rowFor
+unfolding typeAmong propertyOk reads rowFor
 well-formed s rules =
     record {
-      operands = λ i l. of-equation s rules i l (λ x. All (ReadOk (streamsOf s) (kindAt s) i) (rowReads (rowOf (x .op)) x)) (operands-ok s rules i l);
-      own = λ i l. of-equation s rules i l (λ x. kindAt s i ≡ wantedKind (kindAt s i) (rowOf (x .op) .own)) (typed-is (row s rules i l .own) (typeOf s i) (typeOf s i) (types s rules i l .0));
-      constants = λ i l. of-equation s rules i l (λ x. InRange (rowOf (x .op) .k) (kindAt s i) (x .k)) (shape (recordOf s i) (rules .shapes i l) .constant);
+      operands = λ i l. of-equation s rules i l (λ x. All (ReadOk (streamsOf s) (typeAt s) i) (rowReads (rowOf (x .op)) x)) (operands-ok s rules i l);
+      own = λ i l. of-equation s rules i l (λ x. typeAt s i ≡ wantedType (typeAt s i) (rowOf (x .op) .own)) (typed-is (row s rules i l .own) (typeByteOf s i) (typeByteOf s i) (types s rules i l .0));
+      constants = λ i l. of-equation s rules i l (λ x. InRange (rowOf (x .op) .k) (typeAt s i) (x .k)) (shape (recordOf s i) (rules .shapes i l) .constant);
       property-below = sizes s (rules .file) .property;
       property-bool = rw (rules .property);
     }

@@ -16,11 +16,11 @@ use Rattle.node.specs.declared.layout.Trailer.{Trailer}
 use Rattle.node.specs.declared.layout.Record.{Record}
 use Rattle.node.specs.declared.reading.RecordRule.{RecordRule}
 use Rattle.node.specs.declared.reading.RecordRule.the-variants.{Shape, Operands, Types}
-use Rattle.node.specs.Layout.{trailerAt, trailerOf, recordAt, streamsOf, propertyOf, sizeOf, recordsOf, emptyRecord, recordAmong, recordOf, typeOf}
+use Rattle.node.specs.Layout.{trailerAt, trailerOf, recordAt, streamsOf, propertyOf, sizeOf, recordsOf, emptyRecord, recordAmong, recordOf, typeByteOf}
 use Rattle.node.specs.Outcome.{FileRules, NodeRules, AllKeep}
 use Rattle.node.specs.Rules.{lengthOk, fixedOk, countsOk, distanceOk, shapeOk, operandsOk, typesOk, propertyOk}
 use Rattle.node.specs.Verdict.{passesOf, verdictOf}
-use Rattle.node.specs.Equations.{kindOf, kindAmong, kindAt, decoded, equationAt}
+use Rattle.node.specs.Equations.{typeOf, typeAmong, typeAt, decoded, equationAt}
 use Rattle.node.specs.Note.{noteLength, withoutNote}
 use Rattle.node.proofs.FileRules.{Sizes, sizes}
 use Rattle.node.proofs.Notes.{accepted-room, note-is}
@@ -68,7 +68,7 @@ module _ (s : List ℕ) (rules : NodeRules s) (k : ℕ) (left : k + sizeOf (stre
   passes-is : (rule : RecordRule) (i : ℕ) → passesOf rest (streamsOf rest) rule i ≡ passesOf s (streamsOf s) rule i
   passes-is Shape i = ap shapeOk (record-is i)
   passes-is Operands i = ap₂ (λ (n : ℕ) (r : Record). operandsOk n i r) streams-is (record-is i)
-  passes-is Types i = ap₂ typesOk (fun-ext (λ j. ap (λ (r : Record). r .kind) (record-is j))) (record-is i)
+  passes-is Types i = ap₂ typesOk (fun-ext (λ j. ap (λ (r : Record). r .ty) (record-is j))) (record-is i)
 
   all-keep : (rule : RecordRule) → AllKeep s rule → AllKeep rest rule
   all-keep rule keep i l = passes-is rule i ∙ keep i (rw streams-is at l)
@@ -93,8 +93,8 @@ module _ (s : List ℕ) (rules : NodeRules s) (k : ℕ) (left : k + sizeOf (stre
         operands = all-keep Operands (rules .operands);
         types = all-keep Types (rules .types);
         property =
-            ap (λ (t : Trailer). propertyOk (typeOf rest (t .property))) trailer-is
-            ∙ ap (λ (r : Record). propertyOk (r .kind)) (record-is (propertyOf s))
+            ap (λ (t : Trailer). propertyOk (typeByteOf rest (t .property))) trailer-is
+            ∙ ap (λ (r : Record). propertyOk (r .ty)) (record-is (propertyOf s))
             ∙ rules .property;
       }
 
@@ -130,6 +130,6 @@ module _ (s t : List ℕ) {node other : NodeValues} (e : verdictOf s ≡ accepte
   pub notes-same-equation : (i : ℕ) → equationAt s i ≡ equationAt t i
   notes-same-equation i = ap decoded (notes-same-record i)
 
-  pub notes-same-kind : (i : ℕ) → kindAt s i ≡ kindAt t i
-  unfolding kindAmong
-  notes-same-kind i = ap (λ (r : Record). kindOf (r .kind)) (notes-same-record i)
+  pub notes-same-type : (i : ℕ) → typeAt s i ≡ typeAt t i
+  unfolding typeAmong
+  notes-same-type i = ap (λ (r : Record). typeOf (r .ty)) (notes-same-record i)

@@ -15,8 +15,8 @@ use Rattle.answers.specs.Answer.{Answer, accepted, refused, NodeValues}
 use Rattle.fields.proofs.Written.{u16-back, u32-back, i32-back}
 use Rattle.node.specs.declared.layout.Trailer.{Trailer}
 use Rattle.node.specs.declared.layout.Record.{Record}
-use Rattle.node.specs.Equations.{kindOf}
-use Rattle.node.specs.Layout.{trailerAt, trailerOf, recordAt, streamsOf, sizeOf, recordsOf, emptyRecord, recordAmong, recordOf, typeOf}
+use Rattle.node.specs.Equations.{typeOf}
+use Rattle.node.specs.Layout.{trailerAt, trailerOf, recordAt, streamsOf, sizeOf, recordsOf, emptyRecord, recordAmong, recordOf, typeByteOf}
 use Rattle.node.specs.Note.{noteOf, noteLength}
 use Rattle.node.specs.Outcome.{NodeRules}
 use Rattle.node.specs.Rules.{lengthOk, fixedOk, countsOk, distanceOk, shapeOk, operandsOk, typesOk, propertyOk}
@@ -124,7 +124,7 @@ module _ (records : List Record) (property : ℕ) (keep : NodeRecords records pr
   record-is : (i : ℕ) → recordOf written i ≡ recordIn records i
   record-is =
       written-record records property
-      (λ i l. let r = recordIn records i in limited-fits (r .k) (limited (rowOf (r .op) .k) (kindOf (r .kind)) (r .k) (shape r (keep .shapes i l) .constant)))
+      (λ i l. let r = recordIn records i in limited-fits (r .k) (limited (rowOf (r .op) .k) (typeOf (r .ty)) (r .k) (shape r (keep .shapes i l) .constant)))
 
   streams-is : streamsOf written ≡ length records
   streams-is = written-streams records property
@@ -147,10 +147,10 @@ module _ (records : List Record) (property : ℕ) (keep : NodeRecords records pr
         shapes = λ i l. ap shapeOk (record-is i) ∙ keep .shapes i (rw streams-is at l);
         operands = λ i l. ap₂ (λ (n : ℕ) (r : Record). operandsOk n i r) streams-is (record-is i) ∙ keep .operands i (rw streams-is at l);
         types = λ i l.
-            ap₂ typesOk (fun-ext (λ j. ap (λ (r : Record). r .kind) (record-is j))) (record-is i) ∙ keep .types i (rw streams-is at l);
+            ap₂ typesOk (fun-ext (λ j. ap (λ (r : Record). r .ty) (record-is j))) (record-is i) ∙ keep .types i (rw streams-is at l);
         property =
-            ap (λ (t : Trailer). propertyOk (typeOf written (t .property))) (written-trailer records property)
-            ∙ ap (λ (r : Record). propertyOk (r .kind)) (record-is property)
+            ap (λ (t : Trailer). propertyOk (typeByteOf written (t .property))) (written-trailer records property)
+            ∙ ap (λ (r : Record). propertyOk (r .ty)) (record-is property)
             ∙ keep .property-bool;
       }
 

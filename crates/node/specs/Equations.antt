@@ -6,19 +6,19 @@ use lib.Dec.{eqb}
 use lib.IntN.{ℤ, pos}
 use lib.ListN.{getD}
 use Rattle.node.specs.declared.layout.Record.{Record}
-use Rattle.node.specs.declared.equation.Kind.{Kind}
-use Rattle.node.specs.declared.equation.Kind.the-variants.{Bool as BoolKind, Int as IntKind}
+use Rattle.node.specs.declared.equation.StreamType.{StreamType}
+use Rattle.node.specs.declared.equation.StreamType.the-variants.{Bool as BoolType, Int as IntType}
 use Rattle.node.specs.declared.equation.Equation.{Equation}
 use Rattle.node.specs.declared.equation.Equation.the-variants.{Input, Constant, Not, And, Or, Same, Sum, Difference, Multiple, AtMost, Equal, If, Arrow, FollowedBy}
-use Rattle.node.specs.Layout.{recordsOf, recordAmong, typeAmong}
+use Rattle.node.specs.Layout.{recordsOf, recordAmong, typeByteAmong}
 
 -- "type byte (0 bool, 1 int)"
-abbrev pub kindOf : ℕ → Kind
-kindOf byte = cond (eqb byte 0) BoolKind IntKind
+abbrev pub typeOf : ℕ → StreamType
+typeOf byte = cond (eqb byte 0) BoolType IntType
 
-abbrev pub byteOf : Kind → ℕ
-byteOf BoolKind = 0
-byteOf IntKind = 1
+abbrev pub byteOf : StreamType → ℕ
+byteOf BoolType = 0
+byteOf IntType = 1
 
 -- operators 0 to 13, each with its own operands
 abbrev pub equations : Record → List Equation
@@ -45,7 +45,7 @@ decoded r = getD (equations r) (r .op) Input
 
 -- the operator, operands and constant of an equation, the rest 0: "Unused fields are zero"
 abbrev fields : (op a b c : ℕ) (k : ℤ) → Record
-fields op a b c k = record { op = op; kind = 0; a = a; b = b; c = c; k = k; rest = 0 }
+fields op a b c k = record { op = op; ty = 0; a = a; b = b; c = c; k = k; rest = 0 }
 
 abbrev pub fieldsOf : Equation → Record
 fieldsOf Input = fields 0 0 0 0 (pos 0)
@@ -64,25 +64,25 @@ fieldsOf (Arrow a b) = fields 12 a b 0 (pos 0)
 fieldsOf (FollowedBy a b) = fields 13 a b 0 (pos 0)
 
 -- the record of an equation: `decoded` and it are inverse (proofs/Encoding.antt)
-abbrev pub encoded : Kind → Equation → Record
-encoded kind e =
+abbrev pub encoded : StreamType → Equation → Record
+encoded ty e =
     let f = fieldsOf e in
-    record { op = f .op; kind = byteOf kind; a = f .a; b = f .b; c = f .c; k = f .k; rest = 0 }
+    record { op = f .op; ty = byteOf ty; a = f .a; b = f .b; c = f .c; k = f .k; rest = 0 }
 
 -- the constant K of an equation, 0 where it has none
 abbrev pub constantOf : Equation → ℤ
 constantOf e = fieldsOf e .k
 
 -- type and equation of stream i of n
-unfoldable pub kindAmong : List ℕ → (n i : ℕ) → Kind
-kindAmong s n i = kindOf (typeAmong s n i)
+unfoldable pub typeAmong : List ℕ → (n i : ℕ) → StreamType
+typeAmong s n i = typeOf (typeByteAmong s n i)
 
 abbrev pub equationAmong : List ℕ → (n i : ℕ) → Equation
 equationAmong s n i = decoded (recordAmong s n i)
 
 -- of stream i
-abbrev pub kindAt : List ℕ → ℕ → Kind
-kindAt s i = kindAmong s (recordsOf s) i
+abbrev pub typeAt : List ℕ → ℕ → StreamType
+typeAt s i = typeAmong s (recordsOf s) i
 
 abbrev pub equationAt : List ℕ → ℕ → Equation
 equationAt s i = equationAmong s (recordsOf s) i

@@ -32,7 +32,7 @@ abbrev pub recordAt : List ℕ → ℕ → Record
 recordAt s at =
     record {
       op = byteAt s at;
-      kind = byteAt s (at + 1);
+      ty = byteAt s (at + 1);
       a = u16At s (at + 2);
       b = u16At s (at + 4);
       c = u16At s (at + 6);
@@ -58,19 +58,19 @@ recordsOf s = cond (leb 16 (length s) && leb (sizeOf (streamsOf s)) (length s)) 
 
 -- what stands for a record that the file does not have; the paper leaves it free
 abbrev pub emptyRecord : Record
-emptyRecord = record { op = 0; kind = 0; a = 0; b = 0; c = 0; k = pos 0; rest = 0 }
+emptyRecord = record { op = 0; ty = 0; a = 0; b = 0; c = 0; k = pos 0; rest = 0 }
 
 -- record i of n that stand before the trailer, where they fit the file
 unfoldable pub recordAmong : List ℕ → (n i : ℕ) → Record
 recordAmong s n i = cond (ltb i n && leb (sizeOf n) (length s)) (recordAt s (length s - sizeOf n + 16 * i)) emptyRecord
 
 -- its type byte
-abbrev pub typeAmong : List ℕ → (n i : ℕ) → ℕ
-typeAmong s n i = recordAmong s n i .kind
+abbrev pub typeByteAmong : List ℕ → (n i : ℕ) → ℕ
+typeByteAmong s n i = recordAmong s n i .ty
 
 -- "Record i defines stream i": of as many as the file has
 abbrev pub recordOf : List ℕ → ℕ → Record
 recordOf s i = recordAmong s (recordsOf s) i
 
-abbrev pub typeOf : List ℕ → ℕ → ℕ
-typeOf s i = typeAmong s (recordsOf s) i
+abbrev pub typeByteOf : List ℕ → ℕ → ℕ
+typeByteOf s i = typeByteAmong s (recordsOf s) i

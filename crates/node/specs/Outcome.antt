@@ -11,7 +11,7 @@ use Rattle.answers.specs.Answer.{Answer, accepted, refused, NodeValues}
 use Rattle.answers.specs.Checks.{Lowest}
 use Rattle.node.specs.declared.reading.RecordRule.{RecordRule}
 use Rattle.node.specs.declared.reading.RecordRule.the-variants.{Shape, Operands, Types}
-use Rattle.node.specs.Layout.{trailerOf, streamsOf, propertyOf, typeOf}
+use Rattle.node.specs.Layout.{trailerOf, streamsOf, propertyOf, typeByteOf}
 use Rattle.node.specs.Rules.{lengthOk, fixedOk, countsOk, distanceOk, propertyOk}
 use Rattle.node.specs.Verdict.{passesOf}
 
@@ -32,7 +32,7 @@ pub record NodeRules (s : List ℕ) : Type 0 where
   pub shapes : AllKeep s Shape
   pub operands : AllKeep s Operands
   pub types : AllKeep s Types
-  pub property : propertyOk (typeOf s (propertyOf s)) ≡ true
+  pub property : propertyOk (typeByteOf s (propertyOf s)) ≡ true
 
 -- the lowest record that breaks a rule of records
 abbrev pub LowestBad : List ℕ → RecordRule → ℕ → Type 0
@@ -47,7 +47,7 @@ pub data FirstFailure (s : List ℕ) : (number : ℕ) → Place → Type 0 where
   at-5 : {i : ℕ} → FileRules s → LowestBad s Shape i → FirstFailure s 5 (AtRecord i)
   at-6 : {i : ℕ} → FileRules s → AllKeep s Shape → LowestBad s Operands i → FirstFailure s 6 (AtRecord i)
   at-7 : {i : ℕ} → FileRules s → AllKeep s Shape → AllKeep s Operands → LowestBad s Types i → FirstFailure s 7 (AtRecord i)
-  at-8 : FileRules s → AllKeep s Shape → AllKeep s Operands → AllKeep s Types → propertyOk (typeOf s (propertyOf s)) ≡ false → FirstFailure s 8 (AtRecord (propertyOf s))
+  at-8 : FileRules s → AllKeep s Shape → AllKeep s Operands → AllKeep s Types → propertyOk (typeByteOf s (propertyOf s)) ≡ false → FirstFailure s 8 (AtRecord (propertyOf s))
 
 -- what each answer to a node file says
 abbrev pub Says : List ℕ → Answer NodeValues → Type 0

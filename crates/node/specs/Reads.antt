@@ -5,8 +5,8 @@ use mathlib.Core.List.{List, [], _∷_, _++_}
 use mathlib.Core.Bool.{Bool, true, false}
 use lib.IntN.{ℤ}
 use lib.Signed.{_≤ℤ_}
-use Rattle.node.specs.declared.equation.Kind.{Kind}
-use Rattle.node.specs.declared.equation.Kind.the-variants.{Bool as BoolKind, Int as IntKind}
+use Rattle.node.specs.declared.equation.StreamType.{StreamType}
+use Rattle.node.specs.declared.equation.StreamType.the-variants.{Bool as BoolType, Int as IntType}
 use Rattle.node.specs.declared.equation.Equation.{Equation}
 use Rattle.node.specs.declared.table.Wanted.{Wanted}
 use Rattle.node.specs.declared.table.Wanted.the-variants.{ABool, AnInt, Own}
@@ -15,7 +15,7 @@ use Rattle.node.specs.declared.table.Operand.the-variants.{Unused, Now, 
 use Rattle.node.specs.declared.table.Limit.{Limit}
 use Rattle.node.specs.declared.table.Row.{Row}
 use Rattle.node.specs.declared.layout.Record.{Record}
-use Rattle.node.specs.Equations.{kindAt, equationAt, fieldsOf, constantOf}
+use Rattle.node.specs.Equations.{typeAt, equationAt, fieldsOf, constantOf}
 use Rattle.node.specs.Layout.{streamsOf, propertyOf}
 use Rattle.node.specs.Rules.{rangeOf}
 use Rattle.node.specs.Table.{rowOf}
@@ -47,36 +47,36 @@ abbrev pub yields : Equation → Wanted
 yields e = rowFor e .own
 
 -- the type that is wanted, where `own` is that of the equation's stream
-abbrev pub wantedKind : (own : Kind) → Wanted → Kind
-wantedKind own ABool = BoolKind
-wantedKind own AnInt = IntKind
-wantedKind own Own = own
+abbrev pub wantedType : (own : StreamType) → Wanted → StreamType
+wantedType own ABool = BoolType
+wantedType own AnInt = IntType
+wantedType own Own = own
 
 abbrev pub All : {A : Type 0} → (A → Type 0) → List A → Type 0
 All P [] = Unit {0}
 All P (x ∷ xs) = P x × All P xs
 
 -- an operand of stream i, of a node with n streams of these types
-pub record ReadOk (n : ℕ) (kinds : ℕ → Kind) (i : ℕ) (r : Read) : Type 0 where
+pub record ReadOk (n : ℕ) (types : ℕ → StreamType) (i : ℕ) (r : Read) : Type 0 where
   pub below : r .stream < n
   pub lower : r .now ≡ true → r .stream < i
-  pub typed : kinds (r .stream) ≡ wantedKind (kinds i) (r .wanted)
+  pub typed : types (r .stream) ≡ wantedType (types i) (r .wanted)
 
 -- a constant that a row limits
-abbrev pub InRange : Limit → Kind → ℤ → Type 0
-InRange limit kind k = (rangeOf limit kind .0 ≤ℤ k) × (k ≤ℤ rangeOf limit kind .1)
+abbrev pub InRange : Limit → StreamType → ℤ → Type 0
+InRange limit ty k = (rangeOf limit ty .0 ≤ℤ k) × (k ≤ℤ rangeOf limit ty .1)
 
-abbrev pub ConstantOk : Kind → Equation → Type 0
+abbrev pub ConstantOk : StreamType → Equation → Type 0
 ConstantOk own e = InRange (rowFor e .k) own (constantOf e)
 
 -- n equations of these types, one a stream, each with its operands in place, its types right and its constant in range
-pub record WellFormed (n property : ℕ) (kinds : ℕ → Kind) (equations : ℕ → Equation) : Type 0 where
-  pub operands : (i : ℕ) → i < n → All (ReadOk n kinds i) (reads (equations i))
-  pub own : (i : ℕ) → i < n → kinds i ≡ wantedKind (kinds i) (yields (equations i))
-  pub constants : (i : ℕ) → i < n → ConstantOk (kinds i) (equations i)
+pub record WellFormed (n property : ℕ) (types : ℕ → StreamType) (equations : ℕ → Equation) : Type 0 where
+  pub operands : (i : ℕ) → i < n → All (ReadOk n types i) (reads (equations i))
+  pub own : (i : ℕ) → i < n → types i ≡ wantedType (types i) (yields (equations i))
+  pub constants : (i : ℕ) → i < n → ConstantOk (types i) (equations i)
   pub property-below : property < n
-  pub property-bool : kinds property ≡ BoolKind
+  pub property-bool : types property ≡ BoolType
 
 -- the node that a file describes
 abbrev pub WellFormedFile : List ℕ → Type 0
-WellFormedFile s = WellFormed (streamsOf s) (propertyOf s) (kindAt s) (equationAt s)
+WellFormedFile s = WellFormed (streamsOf s) (propertyOf s) (typeAt s) (equationAt s)

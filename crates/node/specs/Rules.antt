@@ -13,9 +13,9 @@ use Rattle.node.specs.declared.table.Operand.the-variants.{Unused, Now, 
 use Rattle.node.specs.declared.table.Limit.{Limit}
 use Rattle.node.specs.declared.table.Limit.the-variants.{Zero, Value, Factor}
 use Rattle.node.specs.declared.table.Row.{Row}
-use Rattle.node.specs.declared.equation.Kind.{Kind}
-use Rattle.node.specs.declared.equation.Kind.the-variants.{Bool as BoolKind, Int as IntKind}
-use Rattle.node.specs.Equations.{kindOf}
+use Rattle.node.specs.declared.equation.StreamType.{StreamType}
+use Rattle.node.specs.declared.equation.StreamType.the-variants.{Bool as BoolType, Int as IntType}
+use Rattle.node.specs.Equations.{typeOf}
 use Rattle.node.specs.Layout.{sizeOf}
 use Rattle.node.specs.Table.{operators, rowOf, readsIt}
 
@@ -43,14 +43,14 @@ abbrev pub constantLimit : ℤ
 constantLimit = pos 1000000000
 
 -- "K against its rule": the least and the greatest that it may be
-abbrev pub rangeOf : Limit → Kind → ℤ × ℤ
-rangeOf Zero kind = (pos 0, pos 0)
-rangeOf Value BoolKind = (pos 0, pos 1)
-rangeOf Value IntKind = (negℤ constantLimit, constantLimit)
-rangeOf Factor kind = (negℤ constantLimit, constantLimit)
+abbrev pub rangeOf : Limit → StreamType → ℤ × ℤ
+rangeOf Zero ty = (pos 0, pos 0)
+rangeOf Value BoolType = (pos 0, pos 1)
+rangeOf Value IntType = (negℤ constantLimit, constantLimit)
+rangeOf Factor ty = (negℤ constantLimit, constantLimit)
 
-abbrev pub constantOk : Limit → Kind → (k : ℤ) → Bool
-constantOk limit kind k = within (rangeOf limit kind .0) k (rangeOf limit kind .1)
+abbrev pub constantOk : Limit → StreamType → (k : ℤ) → Bool
+constantOk limit ty k = within (rangeOf limit ty .0) k (rangeOf limit ty .1)
 
 -- "Unused fields are zero": an operand that the row does not read, and the last four bytes
 unfoldable pub unusedOk : Row → Record → Bool
@@ -64,8 +64,8 @@ unusedOk row r =
 unfoldable pub shapeOk : Record → Bool
 shapeOk r =
     ltb (r .op) operators
-    && leb (r .kind) 1
-    && constantOk (rowOf (r .op) .k) (kindOf (r .kind)) (r .k)
+    && leb (r .ty) 1
+    && constantOk (rowOf (r .op) .k) (typeOf (r .ty)) (r .k)
     && unusedOk (rowOf (r .op)) r
 
 -- "An operand needed now has a lower number than its record"
@@ -82,25 +82,25 @@ operandsOk n i r =
     && placed (rowOf (r .op) .c) n i (r .c)
 
 -- a type byte is the one that is wanted, where `own` is the record's: 0 bool, 1 int
-abbrev pub hasType : Wanted → (own kind : ℕ) → Bool
-hasType ABool own kind = eqb kind 0
-hasType AnInt own kind = eqb kind 1
-hasType Own own kind = eqb kind own
+abbrev pub hasType : Wanted → (own ty : ℕ) → Bool
+hasType ABool own ty = eqb ty 0
+hasType AnInt own ty = eqb ty 1
+hasType Own own ty = eqb ty own
 
 -- an operand that is read is of the type that is wanted
-abbrev pub typed : Operand → (own kind : ℕ) → Bool
-typed Unused own kind = true
-typed (Now wanted) own kind = hasType wanted own kind
-typed (Before wanted) own kind = hasType wanted own kind
+abbrev pub typed : Operand → (own ty : ℕ) → Bool
+typed Unused own ty = true
+typed (Now wanted) own ty = hasType wanted own ty
+typed (Before wanted) own ty = hasType wanted own ty
 
 -- 7: type byte or operand type not the operator's; `types` gives each record's type byte
 unfoldable pub typesOk : (types : ℕ → ℕ) → Record → Bool
 typesOk types r =
-    hasType (rowOf (r .op) .own) (r .kind) (r .kind)
-    && typed (rowOf (r .op) .a) (r .kind) (types (r .a))
-    && typed (rowOf (r .op) .b) (r .kind) (types (r .b))
-    && typed (rowOf (r .op) .c) (r .kind) (types (r .c))
+    hasType (rowOf (r .op) .own) (r .ty) (r .ty)
+    && typed (rowOf (r .op) .a) (r .ty) (types (r .a))
+    && typed (rowOf (r .op) .b) (r .ty) (types (r .b))
+    && typed (rowOf (r .op) .c) (r .ty) (types (r .c))
 
 -- 8: property not bool, by its type byte
-unfoldable pub propertyOk : (kind : ℕ) → Bool
-propertyOk kind = eqb kind 0
+unfoldable pub propertyOk : (ty : ℕ) → Bool
+propertyOk ty = eqb ty 0

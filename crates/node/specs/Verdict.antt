@@ -9,21 +9,21 @@ use Rattle.answers.specs.Answer.{Answer, accepted, NodeValues}
 use Rattle.answers.specs.Checks.{check, checkAll, lowest}
 use Rattle.node.specs.declared.reading.RecordRule.{RecordRule}
 use Rattle.node.specs.declared.reading.RecordRule.the-variants.{Shape, Operands, Types}
-use Rattle.node.specs.Layout.{trailerOf, streamsOf, propertyOf, recordOf, typeOf}
+use Rattle.node.specs.Layout.{trailerOf, streamsOf, propertyOf, recordOf, typeByteOf}
 use Rattle.node.specs.Rules.{lengthOk, fixedOk, countsOk, distanceOk, shapeOk, operandsOk, typesOk, propertyOk}
 
 -- record i of a file of n streams keeps the rule 5, 6 or 7
 abbrev pub passesOf : List ℕ → (n : ℕ) → RecordRule → (i : ℕ) → Bool
 passesOf s n Shape i = shapeOk (recordOf s i)
 passesOf s n Operands i = operandsOk n i (recordOf s i)
-passesOf s n Types i = typesOk (typeOf s) (recordOf s i)
+passesOf s n Types i = typesOk (typeByteOf s) (recordOf s i)
 
 unfoldable pub recordsVerdict : List ℕ → (n property : ℕ) → Answer NodeValues
 recordsVerdict s n property =
     checkAll (lowest (passesOf s n Shape) n) 5 AtRecord
     (checkAll (lowest (passesOf s n Operands) n) 6 AtRecord
     (checkAll (lowest (passesOf s n Types) n) 7 AtRecord
-    (check (propertyOk (typeOf s property)) 8 (AtRecord property)
+    (check (propertyOk (typeByteOf s property)) 8 (AtRecord property)
     (accepted (record { streams = n; property = property })))))
 
 unfoldable pub verdictOf : List ℕ → Answer NodeValues

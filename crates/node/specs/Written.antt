@@ -13,7 +13,7 @@ use Rattle.node.specs.Rules.{shapeOk, operandsOk, typesOk, propertyOk}
 -- "operator byte, type byte (0 bool, 1 int), u16 operands a, b, c, i32 constant K, four zero bytes"
 unfoldable pub recordBytes : Record → List ℕ
 recordBytes r =
-    r .op ∷ r .kind ∷ (u16Bytes (r .a) ++ (u16Bytes (r .b) ++ (u16Bytes (r .c) ++ (i32Bytes (r .k) ++ u32Bytes (r .rest)))))
+    r .op ∷ r .ty ∷ (u16Bytes (r .a) ++ (u16Bytes (r .b) ++ (u16Bytes (r .c) ++ (i32Bytes (r .k) ++ u32Bytes (r .rest)))))
 
 unfoldable pub trailerBytes : Trailer → List ℕ
 trailerBytes t =
@@ -40,5 +40,5 @@ pub record NodeRecords (records : List Record) (property : ℕ) : Type 0 where
   pub property-below : property < length records
   pub shapes : (i : ℕ) → i < length records → shapeOk (recordIn records i) ≡ true
   pub operands : (i : ℕ) → i < length records → operandsOk (length records) i (recordIn records i) ≡ true
-  pub types : (i : ℕ) → i < length records → typesOk (λ j. recordIn records j .kind) (recordIn records i) ≡ true
-  pub property-bool : propertyOk (recordIn records property .kind) ≡ true
+  pub types : (i : ℕ) → i < length records → typesOk (λ j. recordIn records j .ty) (recordIn records i) ≡ true
+  pub property-bool : propertyOk (recordIn records property .ty) ≡ true

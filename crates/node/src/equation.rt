@@ -1,12 +1,12 @@
 // The decoded record: its type, and its equation with stream numbers and constant.
 use crate::layout::Record;
 use crate::layout::record_among;
-use crate::layout::type_among;
+use crate::layout::type_byte_among;
 ghost use mathlib.Core.Path.{_≡_};
-ghost use Rattle.node.specs.Equations.{decoded, kindAmong, equationAmong};
+ghost use Rattle.node.specs.Equations.{decoded, typeAmong, equationAmong};
 
 // The type of a stream.
-pub enum Kind {
+pub enum StreamType {
     Bool,
     Int,
 }
@@ -75,12 +75,12 @@ pub fn equation_among(file: &[u8], n: usize, i: usize) -> Equation
 }
 
 // The type of stream i of n.
-pub fn kind_among(file: &[u8], n: usize, i: usize) -> Kind
-    ensures { λ r. ⌜ r ≡ kindAmong (now (file .entry)) n i ⌝ }
+pub fn type_among(file: &[u8], n: usize, i: usize) -> StreamType
+    ensures { λ r. ⌜ r ≡ typeAmong (now (file .entry)) n i ⌝ }
 {
-    if type_among(file, n, i) == 0 {
-        Kind::Bool
+    if type_byte_among(file, n, i) == 0 {
+        StreamType::Bool
     } else {
-        Kind::Int
+        StreamType::Int
     }
 }

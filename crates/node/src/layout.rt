@@ -5,7 +5,7 @@ use fields::i32_of;
 ghost use Prim.Native.Nat.{_+_, _≤_};
 ghost use mathlib.Core.Path.{_≡_};
 ghost use lib.ListN.{length};
-ghost use Rattle.node.specs.Layout.{trailerOf, recordAt, recordsOf, recordAmong, typeAmong};
+ghost use Rattle.node.specs.Layout.{trailerOf, recordAt, recordsOf, recordAmong, typeByteAmong};
 
 // The last 16 bytes.
 pub struct Trailer {
@@ -22,7 +22,7 @@ pub struct Trailer {
 // A record: 16 bytes.
 pub struct Record {
     pub op: u8,
-    pub kind: u8,
+    pub ty: u8,
     pub a: u16,
     pub b: u16,
     pub c: u16,
@@ -53,7 +53,7 @@ pub fn record_at(file: &[u8], at: usize) -> Record
 {
     Record {
         op: file[at],
-        kind: file[at + 1],
+        ty: file[at + 1],
         a: u16_at(file, at + 2),
         b: u16_at(file, at + 4),
         c: u16_at(file, at + 6),
@@ -91,7 +91,7 @@ pub fn record_among(file: &[u8], n: usize, i: usize) -> Record
     } else {
         Record {
             op: 0,
-            kind: 0,
+            ty: 0,
             a: 0,
             b: 0,
             c: 0,
@@ -102,9 +102,9 @@ pub fn record_among(file: &[u8], n: usize, i: usize) -> Record
 }
 
 // The type byte of record i of n.
-pub fn type_among(file: &[u8], n: usize, i: usize) -> u8
-    ensures { λ r. ⌜ r ≡ typeAmong (now (file .entry)) n i ⌝ }
+pub fn type_byte_among(file: &[u8], n: usize, i: usize) -> u8
+    ensures { λ r. ⌜ r ≡ typeByteAmong (now (file .entry)) n i ⌝ }
 {
     let record = record_among(file, n, i);
-    record.kind
+    record.ty
 }

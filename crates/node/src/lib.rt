@@ -11,9 +11,9 @@ mod rules;
 mod table;
 
 pub use equation::Equation;
-pub use equation::Kind;
+pub use equation::StreamType;
 pub use equation::equation_among;
-pub use equation::kind_among;
+pub use equation::type_among;
 pub use file_note::note;
 pub use file_note::note_length;
 pub use inputs::input_count;

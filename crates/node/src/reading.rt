@@ -1,7 +1,7 @@
 // The verdict on a node file: rules 1 to 8 in order, each over all its records first.
 use crate::layout::record_among;
 use crate::layout::trailer_of;
-use crate::layout::type_among;
+use crate::layout::type_byte_among;
 use crate::refusals;
 use crate::rules::counts_ok;
 use crate::rules::distance_ok;
@@ -70,7 +70,7 @@ fn records_verdict(file: &[u8], n: usize, property: usize) -> NodeVerdict
     if let Found::At(i) = first_bad(file, n, RecordRule::Types) {
         return NodeVerdict::Refused(refusals::TYPES, Place::Record(i));
     }
-    if !property_ok(type_among(file, n, property)) {
+    if !property_ok(type_byte_among(file, n, property)) {
         return NodeVerdict::Refused(refusals::PROPERTY, Place::Record(property));
     }
     NodeVerdict::Accepted {

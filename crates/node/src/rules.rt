@@ -1,7 +1,7 @@
 // The rules of a node file, each as one test of the trailer or of a record.
 use crate::layout::Record;
 use crate::layout::Trailer;
-use crate::layout::type_among;
+use crate::layout::type_byte_among;
 use crate::table::Limit;
 use crate::table::OPERATORS;
 use crate::table::Operand;
@@ -10,8 +10,8 @@ use crate::table::Wanted;
 use crate::table::reads;
 use crate::table::row_of;
 ghost use mathlib.Core.Path.{_≡_};
-ghost use Rattle.node.specs.Equations.{kindOf};
-ghost use Rattle.node.specs.Layout.{typeAmong};
+ghost use Rattle.node.specs.Equations.{typeOf};
+ghost use Rattle.node.specs.Layout.{typeByteAmong};
 ghost use Rattle.node.specs.Rules.{lengthOk, fixedOk, countsOk, distanceOk, within, constantOk, unusedOk, shapeOk, placed, operandsOk, hasType, typed, typesOk, propertyOk};
 
 // Rule 1.
@@ -51,13 +51,13 @@ fn between(low: i32, k: i32, high: i32) -> bool
 }
 
 // K against its rule.
-fn constant_ok(limit: Limit, kind: u8, k: i32) -> bool
-    ensures { λ r. ⌜ r ≡ constantOk limit (kindOf kind) k ⌝ }
+fn constant_ok(limit: Limit, ty: u8, k: i32) -> bool
+    ensures { λ r. ⌜ r ≡ constantOk limit (typeOf ty) k ⌝ }
 {
     match limit {
         Limit::Zero => between(0, k, 0),
         Limit::Value => {
-            if kind == 0 {
+            if ty == 0 {
                 between(0, k, 1)
             } else {
                 between(-1000000000, k, 1000000000)
@@ -83,7 +83,7 @@ pub fn shape_ok(r: Record) -> bool
 {
     let row = row_of(r.op);
     let limit = row.k;
-    (r.op < OPERATORS) & (r.kind <= 1) & constant_ok(limit, r.kind, r.k) & unused_ok(row, r)
+    (r.op < OPERATORS) & (r.ty <= 1) & constant_ok(limit, r.ty, r.k) & unused_ok(row, r)
 }
 
 // An operand that is read is below n and, where it is needed now, lower than its record.
@@ -111,45 +111,45 @@ pub fn operands_ok(n: usize, i: usize, r: Record) -> bool
 }
 
 // A type byte is the one that is wanted, where own is the record's.
-fn has_type(wanted: Wanted, own: u8, kind: u8) -> bool
-    ensures { λ r. ⌜ r ≡ hasType wanted own kind ⌝ }
+fn has_type(wanted: Wanted, own: u8, ty: u8) -> bool
+    ensures { λ r. ⌜ r ≡ hasType wanted own ty ⌝ }
 {
     match wanted {
-        Wanted::ABool => kind == 0,
-        Wanted::AnInt => kind == 1,
-        Wanted::Own => kind == own,
+        Wanted::ABool => ty == 0,
+        Wanted::AnInt => ty == 1,
+        Wanted::Own => ty == own,
     }
 }
 
 // An operand that is read is of the type that is wanted.
-fn is_typed(operand: Operand, own: u8, kind: u8) -> bool
-    ensures { λ r. ⌜ r ≡ typed operand own kind ⌝ }
+fn is_typed(operand: Operand, own: u8, ty: u8) -> bool
+    ensures { λ r. ⌜ r ≡ typed operand own ty ⌝ }
 {
     match operand {
         Operand::Unused => true,
-        Operand::Now(wanted) => has_type(wanted, own, kind),
-        Operand::Before(wanted) => has_type(wanted, own, kind),
+        Operand::Now(wanted) => has_type(wanted, own, ty),
+        Operand::Before(wanted) => has_type(wanted, own, ty),
     }
 }
 
 // Rule 7, in a file of n records.
 pub fn types_ok(file: &[u8], n: usize, r: Record) -> bool
-    ensures { λ z. ⌜ z ≡ typesOk (typeAmong (now (file .entry)) n) r ⌝ }
+    ensures { λ z. ⌜ z ≡ typesOk (typeByteAmong (now (file .entry)) n) r ⌝ }
 {
     let row = row_of(r.op);
     let own = row.own;
     let a = row.a;
     let b = row.b;
     let c = row.c;
-    has_type(own, r.kind, r.kind)
-        & is_typed(a, r.kind, type_among(file, n, r.a as usize))
-        & is_typed(b, r.kind, type_among(file, n, r.b as usize))
-        & is_typed(c, r.kind, type_among(file, n, r.c as usize))
+    has_type(own, r.ty, r.ty)
+        & is_typed(a, r.ty, type_byte_among(file, n, r.a as usize))
+        & is_typed(b, r.ty, type_byte_among(file, n, r.b as usize))
+        & is_typed(c, r.ty, type_byte_among(file, n, r.c as usize))
 }
 
 // Rule 8.
-pub fn property_ok(kind: u8) -> bool
-    ensures { λ r. ⌜ r ≡ propertyOk kind ⌝ }
+pub fn property_ok(ty: u8) -> bool
+    ensures { λ r. ⌜ r ≡ propertyOk ty ⌝ }
 {
-    kind == 0
+    ty == 0
 }

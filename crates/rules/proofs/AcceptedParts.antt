@@ -14,7 +14,7 @@ use Rattle.literals.specs.Literals.{atomOf, constraintNumber}
 use Rattle.rules.specs.Joins.{joinOk}
 use Rattle.rules.specs.Lines.{Window, hasEmpty}
 use Rattle.rules.specs.Outcome.{CertificateRules}
-use Rattle.rules.specs.Verdict.{sortsOfNode, linesOf, windowOf, baseOf, stepOf, shapePasses}
+use Rattle.rules.specs.Verdict.{typesOfNode, linesOf, windowOf, baseOf, stepOf, shapePasses}
 use Rattle.rules.specs.Satisfaction.{Valuation, Satisfies}
 use Rattle.rules.specs.Windows.{Solves}
 use Rattle.rules.proofs.Contradiction.{accepted}
@@ -41,9 +41,9 @@ module _ (node cert : List ℕ) (rules : CertificateRules node cert) where
   step-part =
       record { lines = omega arith; is = λ i l m. part-step cert (propertyOf node) i l; ends = rules .step-ends }
 
-  shape : (i : ℕ) → i < linesOf cert → ShapeFacts (sortsOfNode node) (trailerOf cert .depth) (trailerOf cert .constraints) (lineOf cert i)
+  shape : (i : ℕ) → i < linesOf cert → ShapeFacts (typesOfNode node) (trailerOf cert .depth) (trailerOf cert .constraints) (lineOf cert i)
   unfolding shapePasses
-  shape i l = shape-facts (sortsOfNode node) (trailerOf cert .depth) (trailerOf cert .constraints) (lineOf cert i) (rules .shapes i l)
+  shape i l = shape-facts (typesOfNode node) (trailerOf cert .depth) (trailerOf cert .constraints) (lineOf cert i) (rules .shapes i l)
 
   arithmetic-line : (w : Valuation) (i : ℕ) → i < linesOf cert → lineOf cert i .head .kind ≡ 4 → Satisfies (constraintOf cert) w (lineOf cert i)
   arithmetic-line w i l kind =
@@ -53,7 +53,7 @@ module _ (node cert : List ℕ) (rules : CertificateRules node cert) where
       (λ j m.
       let atom = atomOf (line .literal j) in
       let on = accepted (constraintOf cert) line passes .on-constraints j m in
-      let below = names-constraint (sortsOfNode node) (trailerOf cert .depth) (trailerOf cert .constraints) atom (shape i l .atoms j (omega (arith, listed-within line))) on in
+      let below = names-constraint (typesOfNode node) (trailerOf cert .depth) (trailerOf cert .constraints) atom (shape i l .atoms j (omega (arith, listed-within line))) on in
       constraint-limited node cert rules (constraintNumber atom) below .variables)
 
   module _ (part : Window) (p : IsPart node cert part) (w : Valuation) where

@@ -7,14 +7,14 @@ use Prim.Native.Nat.{ℕ, _≤_, _<_}
 use native.Mathlib.Omega.{arith}
 use borrow.Author.Tests.{ltb-true}
 use lib.Dec.{ltb}
-use Rattle.node.specs.Equations.{kindAt}
+use Rattle.node.specs.Equations.{byteOf, typeAt}
 use Rattle.node.specs.Layout.{streamsOf}
 use Rattle.node.proofs.FileRules.{sizes}
 use Rattle.constraints.specs.Layout.{trailerOf, constraintOf}
 use Rattle.rules.specs.Limited.{Limited}
-use Rattle.rules.specs.Sorts.{sortOf, sortsBelow}
+use Rattle.rules.specs.Types.{typesBelow}
 use Rattle.rules.specs.Outcome.{FileRules, CertificateRules}
-use Rattle.rules.specs.Verdict.{sortsOfNode}
+use Rattle.rules.specs.Verdict.{typesOfNode}
 use Rattle.rules.proofs.ConstraintLimits.{limited}
 use Rattle.rules.proofs.FileFacts.{FileFacts, file-facts, file-passed}
 
@@ -22,15 +22,15 @@ pub certificate-sizes : (cert : List ℕ) → FileRules cert → FileFacts cert
 certificate-sizes cert rules = file-facts cert (file-passed cert (rules .size) (rules .fixed) (rules .counts) (rules .distance))
 
 -- int streams are among the first 64
-pub few-streams : (node : List ℕ) (n : ℕ) → n ≤ 64 → (x : ℕ) → sortsBelow node n x ≡ 1 → x < 64
+pub few-streams : (node : List ℕ) (n : ℕ) → n ≤ 64 → (x : ℕ) → typesBelow node n x ≡ 1 → x < 64
 few-streams node n most x = go (ltb x n) refl
   where
-    go : (b : Bool) → ltb x n ≡ b → cond b (sortOf (kindAt node x)) 2 ≡ 1 → x < 64
+    go : (b : Bool) → ltb x n ≡ b → cond b (byteOf (typeAt node x)) 2 ≡ 1 → x < 64
     go true e f = omega (arith, ltb-true x n e)
     go false e f = omega arith
 
 -- each constraint is within its limits
 pub constraint-limited : (node cert : List ℕ) → CertificateRules node cert → (i : ℕ) → i < trailerOf cert .constraints → Limited (constraintOf cert i)
 constraint-limited node cert rules i l =
-    limited (sortsOfNode node) (few-streams node (streamsOf node) (sizes node (rules .node-rules .file) .few))
+    limited (typesOfNode node) (few-streams node (streamsOf node) (sizes node (rules .node-rules .file) .few))
     (trailerOf cert .depth) (certificate-sizes cert (rules .file) .deep) (constraintOf cert i) (rules .constraints i l)

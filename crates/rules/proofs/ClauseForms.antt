@@ -11,8 +11,8 @@ use lib.Signed.{leZ, _≤ℤ_, _<ℤ_}
 use Rattle.integers.proofs.Diff.{zify, by-diff2, by-diff3}
 use Rattle.integers.proofs.Order.{≤ℤ-refl, leZ-true, leZ-false}
 use Rattle.integers.proofs.Ring.{negℤ-*ℤ}
-use Rattle.node.specs.declared.equation.Kind.{Kind}
-use Rattle.node.specs.declared.equation.Kind.the-variants.{Bool as BoolKind, Int as IntKind}
+use Rattle.node.specs.declared.equation.StreamType.{StreamType}
+use Rattle.node.specs.declared.equation.StreamType.the-variants.{Bool as BoolType, Int as IntType}
 use Rattle.node.specs.Reads.{All}
 use Rattle.streams.specs.Values.{truth}
 use Rattle.rules.specs.declared.pattern.Clause.{Clause}
@@ -58,9 +58,9 @@ lower = by-diff3 _ (λ p q r s t u. simp zify (omega arith))
 abbrev Short : Clause → Type 0
 Short c = (c .count ≡ 1) ⊎ (c .count ≡ 2)
 
-same-short : (kind : Kind) (s t : ℕ) → All Short (sameAs kind s t)
-same-short BoolKind s t = (inr refl, (inr refl, tt))
-same-short IntKind s t = (inl refl, (inl refl, tt))
+same-short : (ty : StreamType) (s t : ℕ) → All Short (sameAs ty s t)
+same-short BoolType s t = (inr refl, (inr refl, tt))
+same-short IntType s t = (inl refl, (inl refl, tt))
 
 module _ (w : Valuation) where
   pub most-is : (x y : ℕ) → patternTrue w (most x y) ≡ leZ (w x) (w y)
@@ -82,14 +82,14 @@ module _ (w : Valuation) where
   -- ---- one stream equal to another
 
   -- the one law over the type: a bool stream by its literals, an int stream by two constraints
-  pub same-true : (kind : Kind) (s t : ℕ) → w s ≡ w t → AllTrue w (sameAs kind s t)
+  pub same-true : (ty : StreamType) (s t : ℕ) → w s ≡ w t → AllTrue w (sameAs ty s t)
   unfolding clauseTrue patternTrue
-  same-true BoolKind s t e = go (truth (w t)) refl
+  same-true BoolType s t e = go (truth (w t)) refl
     where
-      go : (b : Bool) → truth (w t) ≡ b → AllTrue w (sameAs BoolKind s t)
+      go : (b : Bool) → truth (w t) ≡ b → AllTrue w (sameAs BoolType s t)
       go true f = rw (e, f) (refl, (refl, tt))
       go false f = rw (e, f) (refl, (refl, tt))
-  same-true IntKind s t e =
+  same-true IntType s t e =
       rw (most-is s t, most-is t s, e, leZ-true (w t) (w t) .1 (≤ℤ-refl (w t))) (refl, (refl, tt))
 
   -- ---- a literal in front of a clause
@@ -109,8 +109,8 @@ module _ (w : Valuation) where
       (guarded-true p c (short .0) (λ e. h e .0), all-guarded p cs (short .1) (λ e. h e .1))
 
   -- where the guard is false, the two streams are equal
-  pub guarded-same : (kind : Kind) (p : Pattern) (s t : ℕ) → (patternTrue w p ≡ false → w s ≡ w t) → AllTrue w (map (guarded p) (sameAs kind s t))
-  guarded-same kind p s t h = all-guarded p (sameAs kind s t) (same-short kind s t) (λ e. same-true kind s t (h e))
+  pub guarded-same : (ty : StreamType) (p : Pattern) (s t : ℕ) → (patternTrue w p ≡ false → w s ≡ w t) → AllTrue w (map (guarded p) (sameAs ty s t))
+  guarded-same ty p s t h = all-guarded p (sameAs ty s t) (same-short ty s t) (λ e. same-true ty s t (h e))
 
   -- ---- one stream equal to a sum
 

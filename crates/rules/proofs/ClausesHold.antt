@@ -10,8 +10,8 @@ use borrow.Author.Tests.{not-false}
 use lib.IntN.{ℤ, pos, negℤ, _+ℤ_, _-ℤ_, _*ℤ_}
 use lib.Signed.{leZ}
 use Rattle.integers.proofs.Diff.{zify, by-diff2}
-use Rattle.node.specs.declared.equation.Kind.{Kind}
-use Rattle.node.specs.declared.equation.Kind.the-variants.{Bool as BoolKind, Int as IntKind}
+use Rattle.node.specs.declared.equation.StreamType.{StreamType}
+use Rattle.node.specs.declared.equation.StreamType.the-variants.{Bool as BoolType, Int as IntType}
 use Rattle.node.specs.declared.equation.Equation.{Equation}
 use Rattle.node.specs.declared.equation.Equation.the-variants.{Input, Constant, Not, And, Or, Same, Sum, Difference, Multiple, AtMost, Equal, If, Arrow, FollowedBy}
 use Rattle.node.specs.declared.table.Limit.the-variants.{Value}
@@ -21,8 +21,8 @@ use Rattle.node.proofs.WellFormedness.{all-append}
 use Rattle.streams.specs.Meaning.{meaning}
 use Rattle.streams.specs.Values.{number, truth, equals, Values}
 use Rattle.streams.proofs.Numbers.{truth-number, zero-or-one}
-use Rattle.rules.specs.declared.pattern.Place.{Place}
-use Rattle.rules.specs.declared.pattern.Place.the-variants.{Opening, Unsure, Inner}
+use Rattle.rules.specs.declared.pattern.Position.{Position}
+use Rattle.rules.specs.declared.pattern.Position.the-variants.{Opening, Unsure, Inner}
 use Rattle.rules.specs.declared.pattern.Pattern.the-variants.{Yes, No}
 use Rattle.rules.specs.Clauses.{clauses, sameAs, guarded}
 use Rattle.rules.specs.Satisfaction.{Valuation, patternTrue, clauseTrue}
@@ -43,19 +43,19 @@ multiple-sum : (k x : ℤ) → k *ℤ x ≡ k *ℤ x +ℤ pos 0 *ℤ x +ℤ pos 
 multiple-sum = by-diff2 _ (λ p q r s. simp zify (omega arith))
 
 -- what a place says of the instant, and of the operands one instant before
-abbrev pub PastAt : Place → (first : Bool) → (past : Values) → (w : Valuation) → (back : ℕ → ℕ) → Equation → Type 0
+abbrev pub PastAt : Position → (first : Bool) → (past : Values) → (w : Valuation) → (back : ℕ → ℕ) → Equation → Type 0
 PastAt Opening first past w back e = first ≡ true
 PastAt Unsure first past w back e = Unit {0}
 PastAt Inner first past w back e = (first ≡ false) × All (λ r. past (r .stream) ≡ w (back (r .stream))) (reads e)
 
-module _ (w : Valuation) (now back : ℕ → ℕ) (s : ℕ) (kind : Kind) (place : Place) (input : ℤ) (first : Bool) (past : Values) where
+module _ (w : Valuation) (now back : ℕ → ℕ) (s : ℕ) (ty : StreamType) (place : Position) (input : ℤ) (first : Bool) (past : Values) where
   -- stream s has the value in the row of e
   abbrev RowOf : Equation → Type 0
   RowOf e = w s ≡ meaning e input first past (λ x. w (now x))
 
   -- its clauses are true
   abbrev Hold : Equation → Type 0
-  Hold e = AllTrue w (clauses kind e place now back s)
+  Hold e = AllTrue w (clauses ty e place now back s)
 
   -- a stream that is 1 or 0 by a test
   told : (b : Bool) → w s ≡ number b → truth (w s) ≡ b
@@ -125,40 +125,40 @@ module _ (w : Valuation) (now back : ℕ → ℕ) (s : ℕ) (kind : Kind) (place
 
   -- ---- row 1: a bool constant is 0 or 1
 
-  constant-true : (own : Kind) (k : ℤ) → InRange Value own k → w s ≡ k → AllTrue w (clauses own (Constant k) place now back s)
+  constant-true : (own : StreamType) (k : ℤ) → InRange Value own k → w s ≡ k → AllTrue w (clauses own (Constant k) place now back s)
   unfolding clauseTrue patternTrue
-  constant-true BoolKind k fits row = go (zero-or-one k fits)
+  constant-true BoolType k fits row = go (zero-or-one k fits)
     where
-      go : (k ≡ pos 0) ⊎ (k ≡ pos 1) → AllTrue w (clauses BoolKind (Constant k) place now back s)
+      go : (k ≡ pos 0) ⊎ (k ≡ pos 1) → AllTrue w (clauses BoolType (Constant k) place now back s)
       go (inl e) = rw (e, row ∙ e, truth-number false) (refl, tt)
       go (inr e) = rw (e, row ∙ e, truth-number true) (refl, tt)
-  constant-true IntKind k fits row = equal-true w s (pos 0) s (pos 0) s k (row ∙ constant-sum k (w s))
+  constant-true IntType k fits row = equal-true w s (pos 0) s (pos 0) s k (row ∙ constant-sum k (w s))
 
   -- ---- rows 11 to 13: equal to one of two streams
 
   if-true : (a b c : ℕ) → RowOf (If c a b) → Hold (If c a b)
   unfolding patternTrue
   if-true a b c row =
-      all-append _ (map (guarded (No (now c))) (sameAs kind s (now a))) (map (guarded (Yes (now c))) (sameAs kind s (now b)))
-      (guarded-same w kind (No (now c)) s (now a) (λ e. row ∙ rw (not-false (truth (w (now c))) e)))
-      (guarded-same w kind (Yes (now c)) s (now b) (λ e. row ∙ rw e))
+      all-append _ (map (guarded (No (now c))) (sameAs ty s (now a))) (map (guarded (Yes (now c))) (sameAs ty s (now b)))
+      (guarded-same w ty (No (now c)) s (now a) (λ e. row ∙ rw (not-false (truth (w (now c))) e)))
+      (guarded-same w ty (Yes (now c)) s (now b) (λ e. row ∙ rw e))
 
-  arrow-true : (a b : ℕ) (at : Place) → PastAt at first past w back (Arrow a b) → RowOf (Arrow a b) → AllTrue w (clauses kind (Arrow a b) at now back s)
-  arrow-true a b Opening p row = same-true w kind s (now a) (row ∙ rw p)
+  arrow-true : (a b : ℕ) (at : Position) → PastAt at first past w back (Arrow a b) → RowOf (Arrow a b) → AllTrue w (clauses ty (Arrow a b) at now back s)
+  arrow-true a b Opening p row = same-true w ty s (now a) (row ∙ rw p)
   arrow-true a b Unsure p row = tt
-  arrow-true a b Inner p row = same-true w kind s (now b) (row ∙ rw (p .0))
+  arrow-true a b Inner p row = same-true w ty s (now b) (row ∙ rw (p .0))
 
-  followed-true : (a b : ℕ) (at : Place) → PastAt at first past w back (FollowedBy a b) → RowOf (FollowedBy a b) → AllTrue w (clauses kind (FollowedBy a b) at now back s)
+  followed-true : (a b : ℕ) (at : Position) → PastAt at first past w back (FollowedBy a b) → RowOf (FollowedBy a b) → AllTrue w (clauses ty (FollowedBy a b) at now back s)
   unfolding rowOf rowFor reads
-  followed-true a b Opening p row = same-true w kind s (now a) (row ∙ rw p)
+  followed-true a b Opening p row = same-true w ty s (now a) (row ∙ rw p)
   followed-true a b Unsure p row = tt
-  followed-true a b Inner p row = same-true w kind s (back b) (row ∙ rw (p .0) (p .1 .1 .0))
+  followed-true a b Inner p row = same-true w ty s (back b) (row ∙ rw (p .0) (p .1 .1 .0))
 
   -- all fourteen
-  pub clauses-true : (e : Equation) → ConstantOk kind e → PastAt place first past w back e → RowOf e → Hold e
+  pub clauses-true : (e : Equation) → ConstantOk ty e → PastAt place first past w back e → RowOf e → Hold e
   unfolding rowOf rowFor
   clauses-true Input k p row = tt
-  clauses-true (Constant z) k p row = constant-true kind z k row
+  clauses-true (Constant z) k p row = constant-true ty z k row
   clauses-true (Not a) k p row = not-true a (told (not (truth (w (now a)))) row)
   clauses-true (And a b) k p row = and-true a b (told (truth (w (now a)) && truth (w (now b))) row)
   clauses-true (Or a b) k p row = or-true a b (told (truth (w (now a)) || truth (w (now b))) row)

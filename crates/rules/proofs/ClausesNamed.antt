@@ -6,8 +6,8 @@ use Prim.Native.Nat.{ℕ, _≤_, _<_}
 use native.Mathlib.Omega.{arith}
 use lib.IntN.{ℤ, pos, negℤ}
 use lib.Signed.{leZ}
-use Rattle.node.specs.declared.equation.Kind.{Kind}
-use Rattle.node.specs.declared.equation.Kind.the-variants.{Bool as BoolKind, Int as IntKind}
+use Rattle.node.specs.declared.equation.StreamType.{StreamType}
+use Rattle.node.specs.declared.equation.StreamType.the-variants.{Bool as BoolType, Int as IntType}
 use Rattle.node.specs.declared.equation.Equation.{Equation}
 use Rattle.node.specs.declared.equation.Equation.the-variants.{Input, Constant, Not, And, Or, Same, Sum, Difference, Multiple, AtMost, Equal, If, Arrow, FollowedBy}
 use Rattle.node.specs.Reads.{All, Read, rowFor, reads}
@@ -17,8 +17,8 @@ use Rattle.constraints.proofs.Totals.{Below}
 use Rattle.rules.specs.declared.pattern.Clause.{Clause}
 use Rattle.rules.specs.declared.pattern.Pattern.{Pattern}
 use Rattle.rules.specs.declared.pattern.Pattern.the-variants.{Yes, No, Most}
-use Rattle.rules.specs.declared.pattern.Place.{Place}
-use Rattle.rules.specs.declared.pattern.Place.the-variants.{Opening, Unsure, Inner}
+use Rattle.rules.specs.declared.pattern.Position.{Position}
+use Rattle.rules.specs.declared.pattern.Position.the-variants.{Opening, Unsure, Inner}
 use Rattle.rules.specs.Clauses.{boundedOf, most, less, clause1, clause2, clause3, equalTo, sameAs, guarded, firstThen, clauses}
 use Rattle.rules.proofs.ClauseForms.{all-map}
 
@@ -63,36 +63,36 @@ module _ (n : ℕ) where
   equal-below : (s : ℕ) (a : ℤ) (x : ℕ) (b : ℤ) (y : ℕ) (k : ℤ) → s < n → x < n → y < n → AllBelow (equalTo s a x b y k)
   equal-below s a x b y k l m o = (one _ (l, (m, (o, tt))), (one _ (l, (m, (o, tt))), tt))
 
-  same-below : (kind : Kind) (s t : ℕ) → s < n → t < n → AllBelow (sameAs kind s t)
-  same-below BoolKind s t l m = (two (No s) (Yes t) l m, (two (Yes s) (No t) l m, tt))
-  same-below IntKind s t l m = (one (most s t) (most-below s t l m), (one (most t s) (most-below t s m l), tt))
+  same-below : (ty : StreamType) (s t : ℕ) → s < n → t < n → AllBelow (sameAs ty s t)
+  same-below BoolType s t l m = (two (No s) (Yes t) l m, (two (Yes s) (No t) l m, tt))
+  same-below IntType s t l m = (one (most s t) (most-below s t l m), (one (most t s) (most-below t s m l), tt))
 
-  guarded-below : (kind : Kind) (p : Pattern) (s t : ℕ) → LiteralBelow n p → s < n → t < n → AllBelow (map (guarded p) (sameAs kind s t))
-  guarded-below kind p s t o l m =
+  guarded-below : (ty : StreamType) (p : Pattern) (s t : ℕ) → LiteralBelow n p → s < n → t < n → AllBelow (map (guarded p) (sameAs ty s t))
+  guarded-below ty p s t o l m =
       all-map (ClauseBelow n) (ClauseBelow n) (guarded p)
       (λ c b. record { some = omega arith; first = o; second = b .first; third = b .second })
-      (sameAs kind s t) (same-below kind s t l m)
+      (sameAs ty s t) (same-below ty s t l m)
 
-  first-then-below : (kind : Kind) (place : Place) (s x y : ℕ) → s < n → x < n → y < n → AllBelow (firstThen kind place s x y)
-  first-then-below kind Opening s x y l m o = same-below kind s x l m
-  first-then-below kind Unsure s x y l m o = tt
-  first-then-below kind Inner s x y l m o = same-below kind s y l o
+  first-then-below : (ty : StreamType) (place : Position) (s x y : ℕ) → s < n → x < n → y < n → AllBelow (firstThen ty place s x y)
+  first-then-below ty Opening s x y l m o = same-below ty s x l m
+  first-then-below ty Unsure s x y l m o = tt
+  first-then-below ty Inner s x y l m o = same-below ty s y l o
 
   -- ---- the operators
 
-  module _ (now back : ℕ → ℕ) (s : ℕ) (own : s < n) (kind : Kind) where
-    constant-below : (own-kind : Kind) (k : ℤ) (place : Place) → AllBelow (clauses own-kind (Constant k) place now back s)
-    constant-below BoolKind k place = (one (cond (leZ k (pos 0)) (No s) (Yes s)) (go (leZ k (pos 0))), tt)
+  module _ (now back : ℕ → ℕ) (s : ℕ) (own : s < n) (ty : StreamType) where
+    constant-below : (own-ty : StreamType) (k : ℤ) (place : Position) → AllBelow (clauses own-ty (Constant k) place now back s)
+    constant-below BoolType k place = (one (cond (leZ k (pos 0)) (No s) (Yes s)) (go (leZ k (pos 0))), tt)
       where
         go : (t : Bool) → LiteralBelow n (cond t (No s) (Yes s))
         go true = own
         go false = own
-    constant-below IntKind k place = equal-below s (pos 0) s (pos 0) s k own own own
+    constant-below IntType k place = equal-below s (pos 0) s (pos 0) s k own own own
 
-    pub clauses-below : (e : Equation) (place : Place) → All (OperandBelow n now back) (reads e) → AllBelow (clauses kind e place now back s)
+    pub clauses-below : (e : Equation) (place : Position) → All (OperandBelow n now back) (reads e) → AllBelow (clauses ty e place now back s)
     unfolding rowOf rowFor reads
     clauses-below Input place r = tt
-    clauses-below (Constant k) place r = constant-below kind k place
+    clauses-below (Constant k) place r = constant-below ty k place
     clauses-below (Not a) place r =
         let l = r .0 .0 in
         (two (Yes s) (Yes (now a)) own l, (two (No s) (No (now a)) own l, tt))
@@ -136,8 +136,8 @@ module _ (n : ℕ) where
           ),
         )
     clauses-below (If c a b) place r =
-        all-append _ (map (guarded (No (now c))) (sameAs kind s (now a))) (map (guarded (Yes (now c))) (sameAs kind s (now b)))
-        (guarded-below kind (No (now c)) s (now a) (r .1 .1 .0 .0) own (r .0 .0))
-        (guarded-below kind (Yes (now c)) s (now b) (r .1 .1 .0 .0) own (r .1 .0 .0))
-    clauses-below (Arrow a b) place r = first-then-below kind place s (now a) (now b) own (r .0 .0) (r .1 .0 .0)
-    clauses-below (FollowedBy a b) place r = first-then-below kind place s (now a) (back b) own (r .0 .0) (r .1 .0 .1)
+        all-append _ (map (guarded (No (now c))) (sameAs ty s (now a))) (map (guarded (Yes (now c))) (sameAs ty s (now b)))
+        (guarded-below ty (No (now c)) s (now a) (r .1 .1 .0 .0) own (r .0 .0))
+        (guarded-below ty (Yes (now c)) s (now b) (r .1 .1 .0 .0) own (r .1 .0 .0))
+    clauses-below (Arrow a b) place r = first-then-below ty place s (now a) (now b) own (r .0 .0) (r .1 .0 .0)
+    clauses-below (FollowedBy a b) place r = first-then-below ty place s (now a) (back b) own (r .0 .0) (r .1 .0 .1)

@@ -16,7 +16,7 @@ use Rattle.answers.proofs.Tests.{both-true}
 use Rattle.constraints.specs.declared.layout.Term.{Term}
 use Rattle.constraints.specs.Layout.{Constraint, usedIn}
 use Rattle.constraints.specs.Linear.{variable}
-use Rattle.constraints.specs.Rules.{Sorts, between, boundLimit, coefficientLimit, usedOk, rises, termOk, constraintOk}
+use Rattle.constraints.specs.Rules.{Types, between, boundLimit, coefficientLimit, usedOk, rises, termOk, constraintOk}
 use Rattle.constraints.proofs.Blocks.{used-is}
 use Rattle.literals.specs.Literals.{isConstraint, constraintNumber}
 use Rattle.rules.specs.Literals.{namesAtom}
@@ -29,49 +29,49 @@ between-abs n z e =
     abs-≤ n z .1 (leZ-true (negℤ (pos n)) z .0 (both .0), leZ-true z (pos n) .0 (both .1))
 
 -- int streams are among the first 64
-abbrev pub Few : Sorts → Type 0
-Few sorts = (x : ℕ) → sorts x ≡ 1 → x < 64
+abbrev pub Few : Types → Type 0
+Few types = (x : ℕ) → types x ≡ 1 → x < 64
 
 -- a used term
-module _ (sorts : Sorts) (few : Few sorts) (k : ℕ) (deep : k ≤ 8) (t : Term) (e : usedOk sorts k t ≡ true) where
+module _ (types : Types) (few : Few types) (k : ℕ) (deep : k ≤ 8) (t : Term) (e : usedOk types k t ≡ true) where
   used : (variable (t .offset) (t .stream) < 576) × (natAbs (t .coefficient) ≤ 1000000000)
   unfolding usedOk
   used =
-      let sort = eqb (sorts (t .stream)) 1 in
+      let its_type = eqb (types (t .stream)) 1 in
       let low = leb (t .offset) k in
       let limit = between (negℤ coefficientLimit) (t .coefficient) coefficientLimit in
-      let all = both-true (sort && low && eqb (t .zero) 0 && limit) (not (between (pos 0) (t .coefficient) (pos 0))) e in
-      let first = both-true (sort && low && eqb (t .zero) 0) limit (all .0) in
-      let second = both-true (sort && low) (eqb (t .zero) 0) (first .0) in
-      let third = both-true sort low (second .0) in
-      let stream = few (t .stream) (eqb-true (sorts (t .stream)) 1 (third .0)) in
+      let all = both-true (its_type && low && eqb (t .zero) 0 && limit) (not (between (pos 0) (t .coefficient) (pos 0))) e in
+      let first = both-true (its_type && low && eqb (t .zero) 0) limit (all .0) in
+      let second = both-true (its_type && low) (eqb (t .zero) 0) (first .0) in
+      let third = both-true its_type low (second .0) in
+      let stream = few (t .stream) (eqb-true (types (t .stream)) 1 (third .0)) in
       let offset = leb-true (t .offset) k (third .1) in
       (omega (arith, stream, offset), between-abs 1000000000 (t .coefficient) (first .1))
 
-is-used : (sorts : Sorts) (k count : ℕ) (term : ℕ → Term) (j : ℕ) → j < count → termOk sorts k count term j ≡ true → usedOk sorts k (term j) ≡ true
+is-used : (types : Types) (k count : ℕ) (term : ℕ → Term) (j : ℕ) → j < count → termOk types k count term j ≡ true → usedOk types k (term j) ≡ true
 unfolding termOk
-is-used sorts k count term j l e =
-    both-true (usedOk sorts k (term j)) (eqb j 0 || rises (term (j - 1)) (term j)) (rw (lt-leb count j l) at e) .0
+is-used types k count term j l e =
+    both-true (usedOk types k (term j)) (eqb j 0 || rises (term (j - 1)) (term j)) (rw (lt-leb count j l) at e) .0
 
 -- rule 15 keeps the limits
-pub limited : (sorts : Sorts) → Few sorts → (k : ℕ) → k ≤ 8 → (c : Constraint) → constraintOk sorts k c ≡ true → Limited c
+pub limited : (types : Types) → Few types → (k : ℕ) → k ≤ 8 → (c : Constraint) → constraintOk types k c ≡ true → Limited c
 unfolding constraintOk
-limited sorts few k deep c e =
+limited types few k deep c e =
     let count = c .head .count in
     let bound = between (negℤ boundLimit) (c .head .bound) boundLimit in
-    let all = both-true (leb count 8 && c .head .zeros && bound) (every (termOk sorts k count (c .term)) 8) e in
+    let all = both-true (leb count 8 && c .head .zeros && bound) (every (termOk types k count (c .term)) 8) e in
     let first = both-true (leb count 8 && c .head .zeros) bound (all .0) in
     let small : count ≤ 8 = leb-true count 8 (both-true (leb count 8) (c .head .zeros) (first .0) .0) in
-    let each : (j : ℕ) → j < usedIn c → usedOk sorts k (c .term j) ≡ true =
-    λ j l. is-used sorts k count (c .term) j (omega (arith, used-is c small)) (every-all (termOk sorts k count (c .term)) 8 (all .1) j (omega (arith, used-is c small))) in
+    let each : (j : ℕ) → j < usedIn c → usedOk types k (c .term j) ≡ true =
+    λ j l. is-used types k count (c .term) j (omega (arith, used-is c small)) (every-all (termOk types k count (c .term)) 8 (all .1) j (omega (arith, used-is c small))) in
     record {
       few = small;
       bound = between-abs 100000000000 (c .head .bound) (first .1);
-      variables = λ j l. used sorts few k deep (c .term j) (each j l) .0;
-      coefficients = λ j l. used sorts few k deep (c .term j) (each j l) .1;
+      variables = λ j l. used types few k deep (c .term j) (each j l) .0;
+      coefficients = λ j l. used types few k deep (c .term j) (each j l) .1;
     }
 
 -- rule 16: a literal that names an atom, on a constraint, names one of the m
-pub names-constraint : (sorts : Sorts) (k m atom : ℕ) → namesAtom sorts k m atom ≡ true → isConstraint atom ≡ true → constraintNumber atom < m
+pub names-constraint : (types : Types) (k m atom : ℕ) → namesAtom types k m atom ≡ true → isConstraint atom ≡ true → constraintNumber atom < m
 unfolding namesAtom
-names-constraint sorts k m atom e on = ltb-true (constraintNumber atom) m (rw on at e)
+names-constraint types k m atom e on = ltb-true (constraintNumber atom) m (rw on at e)

@@ -17,15 +17,15 @@ use Rattle.streams.proofs.Reading.{all-map}
 use Rattle.constraints.specs.Layout.{Constraint, Line, usedIn, trailerOf, constraintOf, lineOf}
 use Rattle.constraints.specs.Linear.{variable}
 use Rattle.rules.specs.declared.pattern.Clause.{Clause}
-use Rattle.rules.specs.declared.pattern.Place.{Place}
-use Rattle.rules.specs.declared.pattern.Place.the-variants.{Opening, Unsure, Inner}
+use Rattle.rules.specs.declared.pattern.Position.{Position}
+use Rattle.rules.specs.declared.pattern.Position.the-variants.{Opening, Unsure, Inner}
 use Rattle.rules.specs.Clauses.{clauses, numbered}
 use Rattle.rules.specs.Limited.{Named}
-use Rattle.rules.specs.Lines.{baseWindow, stepWindow, placeOf, literalsAre, equationIn}
+use Rattle.rules.specs.Lines.{baseWindow, stepWindow, positionOf, literalsAre, equationIn}
 use Rattle.rules.specs.Outcome.{CertificateRules}
 use Rattle.rules.specs.Verdict.{partOf, windowOf, equationPasses}
 use Rattle.rules.specs.Satisfaction.{Valuation, Satisfies}
-use Rattle.rules.specs.Windows.{PlaceSays, RowHolds, Solves}
+use Rattle.rules.specs.Windows.{PositionSays, RowHolds, Solves}
 use Rattle.rules.proofs.Contradiction.{below-written}
 use Rattle.rules.proofs.CertificateFacts.{certificate-sizes, constraint-limited}
 use Rattle.rules.proofs.ClauseForms.{AllTrue}
@@ -33,37 +33,37 @@ use Rattle.rules.proofs.ClauseLines.{numbered-satisfied}
 use Rattle.rules.proofs.ClausesHold.{PastAt, clauses-true}
 use Rattle.rules.proofs.ClausesNamed.{ClauseBelow, clauses-below}
 
-module _ (node : Node) (formed : WellFormedNode node) (few : node .streams ≤ 64) (opening : Place) where
+module _ (node : Node) (formed : WellFormedNode node) (few : node .streams ≤ 64) (opening : Position) where
   -- ---- stream p at offset q
 
   abbrev clausesAt : (p q : ℕ) → List Clause
   clausesAt p q =
-      clauses (node .kinds p) (node .equations p) (placeOf opening q) (variable q) (variable (q - 1)) (variable q p)
+      clauses (node .types p) (node .equations p) (positionOf opening q) (variable q) (variable (q - 1)) (variable q p)
 
   module _ (p q : ℕ) (l : p < node .streams) where
     -- what the place of the offset says
-    past-at : (w : Valuation) (row : RowHolds node opening w q p) → PastAt (placeOf opening q) (row .first) (row .past) w (variable (q - 1)) (node .equations p)
-    past-at w row = go (placeOf opening q) (row .place)
+    past-at : (w : Valuation) (row : RowHolds node opening w q p) → PastAt (positionOf opening q) (row .first) (row .past) w (variable (q - 1)) (node .equations p)
+    past-at w row = go (positionOf opening q) (row .place)
       where
-        go : (at : Place) → PlaceSays at (node .streams) (row .first) (row .past) (λ x. w (variable (q - 1) x)) → PastAt at (row .first) (row .past) w (variable (q - 1)) (node .equations p)
+        go : (at : Position) → PositionSays at (node .streams) (row .first) (row .past) (λ x. w (variable (q - 1) x)) → PastAt at (row .first) (row .past) w (variable (q - 1)) (node .equations p)
         go Opening e = e
         go Unsure e = tt
         go Inner e = (
           e .0,
-          all-map {P = ReadOk (node .streams) (node .kinds) p} {Q = λ r. row .past (r .stream) ≡ w (variable (q - 1) (r .stream))}
+          all-map {P = ReadOk (node .streams) (node .types) p} {Q = λ r. row .past (r .stream) ≡ w (variable (q - 1) (r .stream))}
               (λ r ok. e .1 (r .stream) (ok .below)) (reads (node .equations p)) (formed .operands p l),
         )
 
     -- its clauses are true, and of small variables
     row-true : (w : Valuation) → RowHolds node opening w q p → AllTrue w (clausesAt p q)
     row-true w row =
-        clauses-true w (variable q) (variable (q - 1)) (variable q p) (node .kinds p) (placeOf opening q) (row .input) (row .first)
+        clauses-true w (variable q) (variable (q - 1)) (variable q p) (node .types p) (positionOf opening q) (row .input) (row .first)
         (row .past) (node .equations p) (formed .constants p l) (past-at w row) (row .value)
 
     row-below : q < 9 → All (ClauseBelow 576) (clausesAt p q)
     row-below low =
-        clauses-below 576 (variable q) (variable (q - 1)) (variable q p) (omega arith) (node .kinds p) (node .equations p) (placeOf opening q)
-        (all-map {P = ReadOk (node .streams) (node .kinds) p}
+        clauses-below 576 (variable q) (variable (q - 1)) (variable q p) (omega arith) (node .types p) (node .equations p) (positionOf opening q)
+        (all-map {P = ReadOk (node .streams) (node .types) p}
         (λ r ok. (omega (arith, ok .below), omega (arith, ok .below))) (reads (node .equations p)) (formed .operands p l))
 
   -- ---- a line
@@ -71,7 +71,7 @@ module _ (node : Node) (formed : WellFormedNode node) (few : node .streams ≤ 6
   pub equation-in-satisfied :
       (constraints : ℕ → Constraint) (m : ℕ) → ((i : ℕ) → i < m → Named (constraints i) (usedIn (constraints i)))
       → (offsets : ℕ) → offsets ≤ 9
-      → (line : Line) → equationIn (node .streams) (node .kinds) (node .equations) constraints m offsets opening line ≡ true
+      → (line : Line) → equationIn (node .streams) (node .types) (node .equations) constraints m offsets opening line ≡ true
       → (w : Valuation) → Solves node opening offsets w
       → Satisfies constraints w line
   unfolding equationIn

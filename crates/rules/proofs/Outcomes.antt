@@ -11,7 +11,7 @@ use Rattle.answers.specs.declared.Found.the-variants.{At, Nothing}
 use Rattle.answers.specs.declared.Place.{Place}
 use Rattle.answers.specs.declared.Place.the-variants.{File, Constraint as AtConstraint, Line as AtLine, Base, Step}
 use Rattle.answers.specs.Answer.{Answer, accepted, refused, NodeValues, CertificateValues}
-use Rattle.answers.proofs.InARow.{by-check, by-check-all}
+use Rattle.answers.proofs.Checks.{by-check, by-check-all}
 use Rattle.answers.proofs.Lowest.{none, all, first}
 use Rattle.node.specs.Outcome.{NodeRules}
 use Rattle.node.specs.Verdict.{verdictOf as nodeVerdict}

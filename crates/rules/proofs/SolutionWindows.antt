@@ -17,11 +17,11 @@ use Rattle.streams.specs.Typing.{Fits, Inputs, given}
 use Rattle.streams.specs.Values.{Values}
 use Rattle.streams.proofs.Reading.{all-map, meaning-rests, by-read}
 use Rattle.constraints.specs.Linear.{variable}
-use Rattle.rules.specs.declared.pattern.Place.{Place}
-use Rattle.rules.specs.declared.pattern.Place.the-variants.{Inner}
-use Rattle.rules.specs.Lines.{placeOf}
+use Rattle.rules.specs.declared.pattern.Position.{Position}
+use Rattle.rules.specs.declared.pattern.Position.the-variants.{Inner}
+use Rattle.rules.specs.Lines.{positionOf}
 use Rattle.rules.specs.Satisfaction.{Valuation}
-use Rattle.rules.specs.Windows.{windowFrom, PlaceSays, RowHolds, Solves}
+use Rattle.rules.specs.Windows.{windowFrom, PositionSays, RowHolds, Solves}
 
 -- a variable of the window is its stream at its instant
 pub window-at : (values : Streams) (start q x : ℕ) → x < 64 → windowFrom values start (variable q x) ≡ values (start + q) x
@@ -50,7 +50,7 @@ module _ (node : Node) (wf : WellFormedNode node) (few : node .streams ≤ 64) (
   row-in-window : (q s : ℕ) → s < node .streams → (g : ℤ) (first : Bool) (past : Values) → meaning (node .equations s) g first past (values (start + q)) ≡ meaning (node .equations s) g first past (at-offset q)
   row-in-window q s l g first past =
       meaning-rests (node .equations s) g first past (values (start + q)) past (at-offset q)
-      (all-map {P = ReadOk (node .streams) (node .kinds) s}
+      (all-map {P = ReadOk (node .streams) (node .types) s}
       (λ r ok. by-read _≡_ (r .now) first _ _ _ _ (λ now. at-instant q (r .stream) (ok .below)) (λ e. refl))
       (reads (node .equations s)) (wf .operands s l))
 
@@ -60,10 +60,10 @@ module _ (node : Node) (wf : WellFormedNode node) (few : node .streams ≤ 64) (
       ap (λ (t : ℕ). before values t x) next ∙ at-instant (q - 1) x m
 
   -- an offset that stands at a place is as the place says
-  abbrev SaysAt : Place → (q : ℕ) → Type 0
-  SaysAt place q = PlaceSays place (node .streams) (isFirst (start + q)) (before values (start + q)) (at-offset (q - 1))
+  abbrev SaysAt : Position → (q : ℕ) → Type 0
+  SaysAt place q = PositionSays place (node .streams) (isFirst (start + q)) (before values (start + q)) (at-offset (q - 1))
 
-  place-says : (opening : Place) → SaysAt opening 0 → (q : ℕ) → SaysAt (placeOf opening q) q
+  place-says : (opening : Position) → SaysAt opening 0 → (q : ℕ) → SaysAt (positionOf opening q) q
   place-says opening begins q = go (eqb q 0) refl
     where
       go : (t : Bool) → eqb q 0 ≡ t → SaysAt (cond t opening Inner) q
@@ -72,7 +72,7 @@ module _ (node : Node) (wf : WellFormedNode node) (few : node .streams ≤ 64) (
           let some : 1 ≤ q = omega (arith, eqb-false q 0 e) in
           (not-first (start + q) (omega arith), past-in-window q some)
 
-  row-holds : (opening : Place) → SaysAt opening 0 → (q s : ℕ) → s < node .streams → RowHolds node opening window q s
+  row-holds : (opening : Position) → SaysAt opening 0 → (q s : ℕ) → s < node .streams → RowHolds node opening window q s
   row-holds opening begins q s l =
       let t = start + q in
       record {
@@ -83,9 +83,9 @@ module _ (node : Node) (wf : WellFormedNode node) (few : node .streams ≤ 64) (
         place = place-says opening begins q;
       }
 
-  pub solves-window : (opening : Place) → SaysAt opening 0 → (offsets : ℕ) → Solves node opening offsets window
+  pub solves-window : (opening : Position) → SaysAt opening 0 → (offsets : ℕ) → Solves node opening offsets window
   solves-window opening begins offsets =
       record {
-        fits = λ q s m l. subst (Fits (node .kinds s)) (at-instant q s l) (solves .fits (start + q) s l);
+        fits = λ q s m l. subst (Fits (node .types s)) (at-instant q s l) (solves .fits (start + q) s l);
         rows = λ q s m l. row-holds opening begins q s l;
       }

@@ -4,8 +4,8 @@ use mathlib.Core.List.{List, [], _∷_, _++_, map}
 use mathlib.Core.Bool.{cond}
 use lib.IntN.{ℤ, pos, negℤ}
 use lib.Signed.{leZ}
-use Rattle.node.specs.declared.equation.Kind.{Kind}
-use Rattle.node.specs.declared.equation.Kind.the-variants.{Bool as BoolKind, Int as IntKind}
+use Rattle.node.specs.declared.equation.StreamType.{StreamType}
+use Rattle.node.specs.declared.equation.StreamType.the-variants.{Bool as BoolType, Int as IntType}
 use Rattle.node.specs.declared.equation.Equation.{Equation}
 use Rattle.node.specs.declared.equation.Equation.the-variants.{Input, Constant, Not, And, Or, Same, Sum, Difference, Multiple, AtMost, Equal, If, Arrow, FollowedBy}
 use Rattle.constraints.specs.Linear.{Bounded}
@@ -15,8 +15,8 @@ use Rattle.rules.specs.declared.pattern.Pattern.the-variants.{Yes, No, M
 use Rattle.rules.specs.declared.pattern.Clause.{Clause}
 use Rattle.rules.specs.declared.pattern.Named.{Named}
 use Rattle.rules.specs.declared.pattern.Named.the-variants.{Is, Missing}
-use Rattle.rules.specs.declared.pattern.Place.{Place}
-use Rattle.rules.specs.declared.pattern.Place.the-variants.{Opening, Unsure, Inner}
+use Rattle.rules.specs.declared.pattern.Position.{Position}
+use Rattle.rules.specs.declared.pattern.Position.the-variants.{Opening, Unsure, Inner}
 
 -- a·x + b·y + c·z is at most bound: "equal variables summed, zeros dropped" is what its coefficients are
 abbrev pub linear : (x : ℕ) (a : ℤ) (y : ℕ) (b : ℤ) (z : ℕ) (c : ℤ) (bound : ℤ) → Linear
@@ -55,49 +55,49 @@ equalTo s a x b y k =
     ∷ []
 
 -- "{!s, t} {s, !t} or {s ≤ t} {t ≤ s}"
-abbrev pub sameAs : Kind → (s t : ℕ) → List Clause
-sameAs BoolKind s t = clause2 (No s) (Yes t) ∷ clause2 (Yes s) (No t) ∷ []
-sameAs IntKind s t = clause1 (most s t) ∷ clause1 (most t s) ∷ []
+abbrev pub sameAs : StreamType → (s t : ℕ) → List Clause
+sameAs BoolType s t = clause2 (No s) (Yes t) ∷ clause2 (Yes s) (No t) ∷ []
+sameAs IntType s t = clause1 (most s t) ∷ clause1 (most t s) ∷ []
 
 -- a literal put in front of a clause of one or two
 abbrev pub guarded : Pattern → Clause → Clause
 guarded p c = record { count = suc (c .count); first = p; second = c .first; third = c .second }
 
 -- operators 12 and 13: at instant 0 the one stream, later the other; none where either may be
-abbrev pub firstThen : Kind → Place → (s first later : ℕ) → List Clause
-firstThen kind Opening s first later = sameAs kind s first
-firstThen kind Unsure s first later = []
-firstThen kind Inner s first later = sameAs kind s later
+abbrev pub firstThen : StreamType → Position → (s first later : ℕ) → List Clause
+firstThen ty Opening s first later = sameAs ty s first
+firstThen ty Unsure s first later = []
+firstThen ty Inner s first later = sameAs ty s later
 
 -- the clauses of stream s, by its equation: `now` is a stream at the same offset, `back` one lower
-abbrev pub clauses : Kind → Equation → Place → (now back : ℕ → ℕ) → (s : ℕ) → List Clause
-clauses kind Input at now back s = []
-clauses BoolKind (Constant k) at now back s = clause1 (cond (leZ k (pos 0)) (No s) (Yes s)) ∷ []
-clauses IntKind (Constant k) at now back s = equalTo s (pos 0) s (pos 0) s k
-clauses kind (Not a) at now back s = clause2 (Yes s) (Yes (now a)) ∷ clause2 (No s) (No (now a)) ∷ []
-clauses kind (And a b) at now back s =
+abbrev pub clauses : StreamType → Equation → Position → (now back : ℕ → ℕ) → (s : ℕ) → List Clause
+clauses ty Input at now back s = []
+clauses BoolType (Constant k) at now back s = clause1 (cond (leZ k (pos 0)) (No s) (Yes s)) ∷ []
+clauses IntType (Constant k) at now back s = equalTo s (pos 0) s (pos 0) s k
+clauses ty (Not a) at now back s = clause2 (Yes s) (Yes (now a)) ∷ clause2 (No s) (No (now a)) ∷ []
+clauses ty (And a b) at now back s =
     clause2 (No s) (Yes (now a)) ∷ clause2 (No s) (Yes (now b)) ∷ clause3 (Yes s) (No (now a)) (No (now b)) ∷ []
-clauses kind (Or a b) at now back s =
+clauses ty (Or a b) at now back s =
     clause2 (Yes s) (No (now a)) ∷ clause2 (Yes s) (No (now b)) ∷ clause3 (No s) (Yes (now a)) (Yes (now b)) ∷ []
-clauses kind (Same a b) at now back s =
+clauses ty (Same a b) at now back s =
     clause3 (No s) (No (now a)) (Yes (now b))
     ∷ clause3 (No s) (Yes (now a)) (No (now b))
     ∷ clause3 (Yes s) (Yes (now a)) (Yes (now b))
     ∷ clause3 (Yes s) (No (now a)) (No (now b))
     ∷ []
-clauses kind (Sum a b) at now back s = equalTo s (pos 1) (now a) (pos 1) (now b) (pos 0)
-clauses kind (Difference a b) at now back s = equalTo s (pos 1) (now a) (negℤ (pos 1)) (now b) (pos 0)
-clauses kind (Multiple k a) at now back s = equalTo s k (now a) (pos 0) (now a) (pos 0)
-clauses kind (AtMost a b) at now back s = clause2 (No s) (most (now a) (now b)) ∷ clause2 (Yes s) (less (now b) (now a)) ∷ []
-clauses kind (Equal a b) at now back s =
+clauses ty (Sum a b) at now back s = equalTo s (pos 1) (now a) (pos 1) (now b) (pos 0)
+clauses ty (Difference a b) at now back s = equalTo s (pos 1) (now a) (negℤ (pos 1)) (now b) (pos 0)
+clauses ty (Multiple k a) at now back s = equalTo s k (now a) (pos 0) (now a) (pos 0)
+clauses ty (AtMost a b) at now back s = clause2 (No s) (most (now a) (now b)) ∷ clause2 (Yes s) (less (now b) (now a)) ∷ []
+clauses ty (Equal a b) at now back s =
     clause2 (No s) (most (now a) (now b))
     ∷ clause2 (No s) (most (now b) (now a))
     ∷ clause3 (Yes s) (less (now a) (now b)) (less (now b) (now a))
     ∷ []
-clauses kind (If c a b) at now back s =
-    map (guarded (No (now c))) (sameAs kind s (now a)) ++ map (guarded (Yes (now c))) (sameAs kind s (now b))
-clauses kind (Arrow a b) at now back s = firstThen kind at s (now a) (now b)
-clauses kind (FollowedBy a b) at now back s = firstThen kind at s (now a) (back b)
+clauses ty (If c a b) at now back s =
+    map (guarded (No (now c))) (sameAs ty s (now a)) ++ map (guarded (Yes (now c))) (sameAs ty s (now b))
+clauses ty (Arrow a b) at now back s = firstThen ty at s (now a) (now b)
+clauses ty (FollowedBy a b) at now back s = firstThen ty at s (now a) (back b)
 
 -- "clause r, counted from 0"
 abbrev pub numbered : List Clause → ℕ → Named

@@ -8,7 +8,7 @@ pub mod Matching
 pub mod Note
 pub mod Outcome
 pub mod Satisfaction
-pub mod Sorts
+pub mod Types
 pub mod Theorems
 pub mod Verdict
 pub mod Windows

@@ -3,17 +3,17 @@ use Prim.Native.Nat.{ℕ, _+_, _-_}
 use mathlib.Core.Bool.{Bool, false, cond, not, _&&_, _||_}
 use lib.Dec.{leb, ltb, eqb}
 use Rattle.answers.specs.Checks.{every}
-use Rattle.node.specs.declared.equation.Kind.{Kind}
+use Rattle.node.specs.declared.equation.StreamType.{StreamType}
 use Rattle.node.specs.declared.equation.Equation.{Equation}
 use Rattle.constraints.specs.declared.layout.LineHead.{LineHead}
 use Rattle.constraints.specs.Layout.{Constraint, Line, listedIn}
 use Rattle.constraints.specs.Linear.{variable}
-use Rattle.constraints.specs.Rules.{Sorts}
+use Rattle.constraints.specs.Rules.{Types}
 use Rattle.rules.specs.declared.pattern.Clause.{Clause}
 use Rattle.rules.specs.declared.pattern.Named.{Named}
 use Rattle.rules.specs.declared.pattern.Named.the-variants.{Is, Missing}
-use Rattle.rules.specs.declared.pattern.Place.{Place}
-use Rattle.rules.specs.declared.pattern.Place.the-variants.{Opening, Unsure, Inner}
+use Rattle.rules.specs.declared.pattern.Position.{Position}
+use Rattle.rules.specs.declared.pattern.Position.the-variants.{Opening, Unsure, Inner}
 use Rattle.rules.specs.Clauses.{clauses, numbered}
 use Rattle.literals.specs.Literals.{positive, negative, atomOf}
 use Rattle.rules.specs.Literals.{namesAtom}
@@ -24,10 +24,10 @@ abbrev pub multiplierOk : (kind multiplier : ℕ) → Bool
 multiplierOk kind m = cond (eqb kind 4) (leb 1 m && leb m 1000000) (eqb m 0)
 
 -- literal and multiplier j of a line: listed ones name an atom, the rest are zero
-unfoldable pub slotOk : Sorts → (k m kind count : ℕ) → (literal multiplier : ℕ → ℕ) → (j : ℕ) → Bool
-slotOk sorts k m kind count literal multiplier j =
+unfoldable pub slotOk : Types → (k m kind count : ℕ) → (literal multiplier : ℕ → ℕ) → (j : ℕ) → Bool
+slotOk types k m kind count literal multiplier j =
     cond (leb count j) (eqb (literal j) 0 && eqb (multiplier j) 0)
-    (namesAtom sorts k m (atomOf (literal j)) && multiplierOk kind (multiplier j))
+    (namesAtom types k m (atomOf (literal j)) && multiplierOk kind (multiplier j))
 
 -- "What its kind and count don't use is zero": kind 1 and 3 use p, q and r, kind 2 uses q, kind 4 none
 unfoldable pub numbersOk : LineHead → Bool
@@ -37,13 +37,13 @@ numbersOk h =
     && (eqb (h .kind) 1 || eqb (h .kind) 3 || eqb (h .r) 0)
 
 -- 16: kind, count, listed literal naming no atom, kind 4 multiplier, unused field not 0
-unfoldable pub shapeOk : Sorts → (k m : ℕ) → Line → Bool
-shapeOk sorts k m line =
+unfoldable pub shapeOk : Types → (k m : ℕ) → Line → Bool
+shapeOk types k m line =
     leb 1 (line .head .kind)
     && leb (line .head .kind) 4
     && leb (line .head .count) 12
     && numbersOk (line .head)
-    && every (slotOk sorts k m (line .head .kind) (line .head .count) (line .literal) (line .multiplier)) 12
+    && every (slotOk types k m (line .head .kind) (line .head .count) (line .literal) (line .multiplier)) 12
 
 -- what a part assumes of its window
 pub record Window : Type 0 where
@@ -53,7 +53,7 @@ pub record Window : Type 0 where
   -- its equations stand at the offsets below this one
   pub offsets : ℕ
   -- where its first offset stands
-  pub opening : Place
+  pub opening : Position
   -- what its property lines are
   pub property : Line → Bool
 
@@ -87,8 +87,8 @@ stepWindow k prop base step =
     record { from = base; until = base + step; offsets = k + 1; opening = Unsure; property = stepPropertyOk k prop }
 
 -- where an offset of a part stands
-abbrev pub placeOf : (opening : Place) → (offset : ℕ) → Place
-placeOf opening offset = cond (eqb offset 0) opening Inner
+abbrev pub positionOf : (opening : Position) → (offset : ℕ) → Position
+positionOf opening offset = cond (eqb offset 0) opening Inner
 
 -- a line's literals are those of a clause, in its order
 unfoldable pub clauseIs : (ℕ → Constraint) → (m : ℕ) → Line → Clause → Bool
@@ -106,22 +106,22 @@ literalsAre constraints m line (Is c) = clauseIs constraints m line c
 pub record Streams : Type 0 where
   pub count : ℕ
   pub property : ℕ
-  pub kinds : ℕ → Kind
+  pub types : ℕ → StreamType
   pub equations : ℕ → Equation
 
 -- 17: "clause r, counted from 0, of stream p at offset q (base: below k; step: up to k)"
-unfoldable pub equationIn : (n : ℕ) (kinds : ℕ → Kind) (equations : ℕ → Equation) → (ℕ → Constraint) → (m offsets : ℕ) → (opening : Place) → Line → Bool
-equationIn n kinds equations constraints m offsets opening line =
+unfoldable pub equationIn : (n : ℕ) (types : ℕ → StreamType) (equations : ℕ → Equation) → (ℕ → Constraint) → (m offsets : ℕ) → (opening : Position) → Line → Bool
+equationIn n types equations constraints m offsets opening line =
     let p = line .head .p in
     let q = line .head .q in
     ltb p n
     && ltb q offsets
     && literalsAre constraints m line
-    (numbered (clauses (kinds p) (equations p) (placeOf opening q) (variable q) (variable (q - 1)) (variable q p)) (line .head .r))
+    (numbered (clauses (types p) (equations p) (positionOf opening q) (variable q) (variable (q - 1)) (variable q p)) (line .head .r))
 
 abbrev pub equationOk : Streams → (ℕ → Constraint) → (m : ℕ) → Window → Line → Bool
 equationOk node constraints m w =
-    equationIn (node .count) (node .kinds) (node .equations) constraints m (w .offsets) (w .opening)
+    equationIn (node .count) (node .types) (node .equations) constraints m (w .offsets) (w .opening)
 
 -- a rule's number where its test fails, else what the rules after it give
 abbrev pub unless : (ok : Bool) → (number rest : ℕ) → ℕ

@@ -3,9 +3,9 @@ use Prim.Native.Nat.{ℕ, _/_, _%_}
 use mathlib.Core.Bool.{Bool, cond, _&&_}
 use lib.Dec.{leb, ltb, eqb}
 use Rattle.literals.specs.Literals.{isConstraint, constraintNumber}
-use Rattle.constraints.specs.Rules.{Sorts}
+use Rattle.constraints.specs.Rules.{Types}
 
 -- the number names an atom, at depth k with m constraints
-unfoldable pub namesAtom : Sorts → (k m atom : ℕ) → Bool
-namesAtom sorts k m atom =
-    cond (isConstraint atom) (ltb (constraintNumber atom) m) (leb (atom / 64) k && eqb (sorts (atom % 64)) 0)
+unfoldable pub namesAtom : Types → (k m atom : ℕ) → Bool
+namesAtom types k m atom =
+    cond (isConstraint atom) (ltb (constraintNumber atom) m) (leb (atom / 64) k && eqb (types (atom % 64)) 0)

@@ -9,24 +9,24 @@ use Rattle.answers.specs.declared.Found.the-variants.{At, Nothing}
 use Rattle.answers.specs.declared.Place.the-variants.{File, Constraint as AtConstraint, Line as AtLine, Base, Step}
 use Rattle.answers.specs.Answer.{Answer, accepted, refused, CertificateValues}
 use Rattle.answers.specs.Checks.{check, checkAll, lowest}
-use Rattle.node.specs.Equations.{kindAt, equationAt}
+use Rattle.node.specs.Equations.{typeAt, equationAt}
 use Rattle.node.specs.Layout.{streamsOf, propertyOf}
 use Rattle.node.specs.Rules.{lengthOk}
 use Rattle.node.specs.Verdict.{verdictOf as nodeVerdict}
 use Rattle.constraints.specs.Layout.{trailerOf, constraintOf, lineOf}
-use Rattle.constraints.specs.Rules.{Sorts, fixedOk, countsOk, distanceOk, constraintOk}
-use Rattle.rules.specs.Sorts.{sortsBelow}
+use Rattle.constraints.specs.Rules.{Types, fixedOk, countsOk, distanceOk, constraintOk}
+use Rattle.rules.specs.Types.{typesBelow}
 use Rattle.rules.specs.Arithmetic.{arithmeticOk}
 use Rattle.rules.specs.Joins.{joinOk}
 use Rattle.rules.specs.Lines.{Streams, Window, baseWindow, stepWindow, shapeOk, equationOk, unless, kindFault, hasEmpty}
 
 -- the streams of a node: 0 a bool, 1 an int, 2 none
-abbrev pub sortsOfNode : List ℕ → Sorts
-sortsOfNode node = sortsBelow node (streamsOf node)
+abbrev pub typesOfNode : List ℕ → Types
+typesOfNode node = typesBelow node (streamsOf node)
 
 abbrev pub streamsOfNode : List ℕ → Streams
 streamsOfNode node =
-    record { count = streamsOf node; property = propertyOf node; kinds = kindAt node; equations = equationAt node }
+    record { count = streamsOf node; property = propertyOf node; types = typeAt node; equations = equationAt node }
 
 -- how many lines there are
 abbrev pub linesOf : (cert : List ℕ) → ℕ
@@ -54,12 +54,12 @@ firstLine cert i = partOf cert 0 i .from
 
 -- rule 15, of constraint i
 abbrev pub constraintPasses : (node cert : List ℕ) → (i : ℕ) → Bool
-constraintPasses node cert i = constraintOk (sortsOfNode node) (trailerOf cert .depth) (constraintOf cert i)
+constraintPasses node cert i = constraintOk (typesOfNode node) (trailerOf cert .depth) (constraintOf cert i)
 
 -- rule 16, of line i
 unfoldable pub shapePasses : (node cert : List ℕ) → (i : ℕ) → Bool
 shapePasses node cert i =
-    shapeOk (sortsOfNode node) (trailerOf cert .depth) (trailerOf cert .constraints) (lineOf cert i)
+    shapeOk (typesOfNode node) (trailerOf cert .depth) (trailerOf cert .constraints) (lineOf cert i)
 
 -- rule 17, of line i
 abbrev pub equationPasses : (node cert : List ℕ) → (i : ℕ) → Bool

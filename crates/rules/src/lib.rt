@@ -5,4 +5,4 @@ pub use pattern::Clause;
 pub use pattern::Linear;
 pub use pattern::Named;
 pub use pattern::Pattern;
-pub use pattern::Place;
+pub use pattern::Position;

@@ -36,7 +36,7 @@ pub enum Named {
 }
 
 // Where a window an equation stands: at its first offset as instant 0, at its first offset as any instant, or later.
-pub enum Place {
+pub enum Position {
     Opening,
     Unsure,
     Inner,

@@ -11,7 +11,7 @@ use lib.Dec.{ltb}
 use lib.IntN.{ℤ, pos}
 use lib.ListN.{length, getD, take, drop, replicate, length-drop, length-replicate}
 use lib.Seq.{ext-getD, take-length, take-at}
-use Rattle.answers.proofs.FromTheFront.{below}
+use Rattle.answers.proofs.Prefix.{below}
 use Rattle.fields.specs.Fields.{u16At, i64At}
 use Rattle.answers.specs.Answer.{Answer}
 use Rattle.report.specs.Call.{callLine}

@@ -16,7 +16,7 @@ use Rattle.answers.specs.declared.InstantVerdict.the-variants.{Refused}
 use Rattle.answers.specs.declared.Found.{Found}
 use Rattle.answers.specs.Answer.{Answer, accepted, refused, instantAnswer, NodeValues, isAccepted}
 use Rattle.answers.specs.Checks.{lowest}
-use Rattle.answers.proofs.InARow.{by-check}
+use Rattle.answers.proofs.Checks.{by-check}
 use Rattle.answers.proofs.Tests.{both-true}
 use Rattle.node.specs.Inputs.{inputCount}
 use Rattle.node.specs.Layout.{streamsOf}
@@ -28,8 +28,8 @@ use Rattle.streams.specs.Instant.{inputFits, instantOf, valueInside, filled}
 use Rattle.streams.specs.Nodes.{nodeOf}
 use Rattle.streams.proofs.Evaluations.{instant-length}
 use Rattle.session.specs.declared.Session.{Session}
-use Rattle.session.specs.declared.holding.Held.{Held}
-use Rattle.session.specs.declared.holding.Held.the-variants.{Streams, NoNode}
+use Rattle.session.specs.declared.holding.HeldNode.{HeldNode}
+use Rattle.session.specs.declared.holding.HeldNode.the-variants.{Streams, NoNode}
 use Rattle.session.specs.Records.{held, unstarted, isNode, holdsNode}
 use Rattle.session.specs.Instants.{workedOut, inOrder, answerOf, movedTo, sessionOf, sliceOf}
 use Rattle.session.specs.Working.{nodeHeld}
@@ -42,7 +42,7 @@ not-answered e = let n : _≡_ {A = ℕ} 0 1 = cc in absurd (omega arith)
 -- ---- what the node that was found says of the record
 
 module _ (s : Session) where
-  abbrev nodeFound : Held
+  abbrev nodeFound : HeldNode
   nodeFound = nodeHeld (s .file) (s .length) (unstarted s) (s .last)
 
   pub holds-none : nodeFound ≡ NoNode → holdsNode s ≡ false

@@ -16,9 +16,9 @@ use Rattle.answers.specs.declared.Found.the-variants.{At, Nothing}
 use Rattle.answers.specs.declared.Place.the-variants.{File, Record as AtRecord}
 use Rattle.answers.specs.Answer.{Answer, accepted, NodeValues}
 use Rattle.answers.specs.Checks.{lowest}
-use Rattle.answers.proofs.InARow.{by-check, by-check-all}
+use Rattle.answers.proofs.Checks.{by-check, by-check-all}
 use Rattle.answers.proofs.Lowest.{all}
-use Rattle.node.specs.Equations.{kindAt, equationAt}
+use Rattle.node.specs.Equations.{typeAt, equationAt}
 use Rattle.node.specs.Inputs.{inputCount}
 use Rattle.node.specs.Layout.{streamsOf}
 use Rattle.node.specs.Verdict.{verdictOf}
@@ -58,7 +58,7 @@ module _ (file : List ℕ) {node : NodeValues} (e : verdictOf file ≡ accepted 
       record {
         count = eqb-true _ _ count;
         fits = λ i l is.
-            fits-test (kindAt file i) (given (nodeOf file) (c .inputs) i) .0
+            fits-test (typeAt file i) (given (nodeOf file) (c .inputs) i) .0
             (rw (equation-input (equationAt file i) is) at (all (inputTyped file (c .inputs)) (streamsOf file) input i l));
       }
 

@@ -13,7 +13,7 @@ use Rattle.answers.specs.Checks.{every}
 use Rattle.node.specs.Layout.{streamsOf}
 use Rattle.node.specs.Verdict.{verdictOf}
 use Rattle.node.proofs.Outcomes.{accepted-values}
-use Rattle.session.specs.declared.holding.Held.the-variants.{Streams, NoNode}
+use Rattle.session.specs.declared.holding.HeldNode.the-variants.{Streams, NoNode}
 use Rattle.session.specs.Records.{valueTyped}
 use Rattle.session.specs.Working.{nodeIn, nodeHeld}
 

@@ -10,9 +10,9 @@ use lib.Dec.{ltb}
 use lib.IntN.{ℤ, pos}
 use lib.ListN.{length, getD, replicate, length-replicate, List·getD-eq-default}
 use Rattle.answers.specs.Answer.{accepted, NodeValues}
-use Rattle.node.specs.declared.equation.Kind.{Kind}
-use Rattle.node.specs.declared.equation.Kind.the-variants.{Bool as BoolKind, Int as IntKind}
-use Rattle.node.specs.Equations.{kindAt}
+use Rattle.node.specs.declared.equation.StreamType.{StreamType}
+use Rattle.node.specs.declared.equation.StreamType.the-variants.{Bool as BoolType, Int as IntType}
+use Rattle.node.specs.Equations.{typeAt}
 use Rattle.node.specs.Inputs.{inputsBelow, inputCount}
 use Rattle.node.specs.Verdict.{verdictOf}
 use Rattle.streams.specs.Nodes.{nodeOf}
@@ -70,12 +70,12 @@ module _ (file : List ℕ) {node : NodeValues} (e : verdictOf file ≡ accepted 
   noughts-typed =
       record {
         count = length-replicate (inputCount file) (pos 0);
-        fits = λ i l is. subst (Fits (kindAt file i)) (sym (same-everywhere (inputCount file) (inputsBelow file i) (pos 0))) (fits-test (kindAt file i) (pos 0) .0 (nought-fits (kindAt file i)));
+        fits = λ i l is. subst (Fits (typeAt file i)) (sym (same-everywhere (inputCount file) (inputsBelow file i) (pos 0))) (fits-test (typeAt file i) (pos 0) .0 (nought-fits (typeAt file i)));
       }
     where
-      nought-fits : (kind : Kind) → fitsTest kind (pos 0) ≡ true
-      nought-fits BoolKind = refl
-      nought-fits IntKind = refl
+      nought-fits : (ty : StreamType) → fitsTest ty (pos 0) ≡ true
+      nought-fits BoolType = refl
+      nought-fits IntType = refl
 
   pub solved : (v : Streams) × Solves file done v
   solved = let found = solved-on noughts noughts-typed in (found .0, found .1 .0)

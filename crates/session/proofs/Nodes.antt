@@ -6,10 +6,10 @@ use mathlib.Core.List.{List}
 use Prim.Native.Nat.{ℕ, zero, suc}
 use lib.IntN.{ℤ}
 use Rattle.answers.specs.Answer.{accepted, NodeValues}
-use Rattle.node.specs.declared.equation.Kind.{Kind}
+use Rattle.node.specs.declared.equation.StreamType.{StreamType}
 use Rattle.node.specs.declared.equation.Equation.{Equation}
 use Rattle.node.specs.declared.layout.Record.{Record}
-use Rattle.node.specs.Equations.{kindOf, kindAmong, kindAt, decoded, equationAt}
+use Rattle.node.specs.Equations.{typeOf, typeAmong, typeAt, decoded, equationAt}
 use Rattle.node.specs.Inputs.{isInputEquation, isInput, inputsBelow, inputCount}
 use Rattle.node.specs.Layout.{streamsOf, propertyOf, recordsOf}
 use Rattle.node.specs.Note.{withoutNote}
@@ -24,8 +24,8 @@ use Rattle.streams.specs.Typing.{fitsTest, given}
 abbrev valuesOf : List ℕ → NodeValues
 valuesOf s = record { streams = streamsOf s; property = propertyOf s }
 
-abbrev made : (streams property : ℕ) → (ℕ → Kind) → (ℕ → Equation) → (inputs : ℕ) → (ℕ → ℕ) → Node
-made n p k f i x = record { streams = n; property = p; kinds = k; equations = f; inputs = i; inputNumber = x }
+abbrev made : (streams property : ℕ) → (ℕ → StreamType) → (ℕ → Equation) → (inputs : ℕ) → (ℕ → ℕ) → Node
+made n p k f i x = record { streams = n; property = p; types = k; equations = f; inputs = i; inputNumber = x }
 
 module _ (file : List ℕ) {node : NodeValues} (e : verdictOf file ≡ accepted node) where
   abbrev rest : List ℕ
@@ -43,9 +43,9 @@ module _ (file : List ℕ) {node : NodeValues} (e : verdictOf file ≡ accepted 
   is-input-same : (i : ℕ) → isInput rest i ≡ isInput file i
   is-input-same i = ap (λ (r : Record). isInputEquation (decoded r)) (without-note-record file e i)
 
-  kinds-same : kindAt rest ≡ kindAt file
-  unfolding kindAmong
-  kinds-same = fun-ext (λ i. ap (λ (r : Record). kindOf (r .kind)) (without-note-record file e i))
+  types-same : typeAt rest ≡ typeAt file
+  unfolding typeAmong
+  types-same = fun-ext (λ i. ap (λ (r : Record). typeOf (r .ty)) (without-note-record file e i))
 
   equations-same : equationAt rest ≡ equationAt file
   equations-same = fun-ext (λ i. ap decoded (without-note-record file e i))
@@ -66,12 +66,12 @@ module _ (file : List ℕ) {node : NodeValues} (e : verdictOf file ≡ accepted 
 
   pub node-same : nodeOf rest ≡ nodeOf file
   node-same =
-      ap₂ (λ (n p : ℕ). made n p (kindAt rest) (equationAt rest) (inputCount rest) (inputsBelow rest)) streams-same property-same
-      ∙ ap₂ (λ (k : ℕ → Kind) (f : ℕ → Equation). made (streamsOf file) (propertyOf file) k f (inputCount rest) (inputsBelow rest)) kinds-same equations-same
-      ∙ ap₂ (made (streamsOf file) (propertyOf file) (kindAt file) (equationAt file)) inputs-same (fun-ext inputs-below-same)
+      ap₂ (λ (n p : ℕ). made n p (typeAt rest) (equationAt rest) (inputCount rest) (inputsBelow rest)) streams-same property-same
+      ∙ ap₂ (λ (k : ℕ → StreamType) (f : ℕ → Equation). made (streamsOf file) (propertyOf file) k f (inputCount rest) (inputsBelow rest)) types-same equations-same
+      ∙ ap₂ (made (streamsOf file) (propertyOf file) (typeAt file) (equationAt file)) inputs-same (fun-ext inputs-below-same)
 
   -- 33's test asks the same of it
   pub input-fits-same : (inputs : List ℤ) → inputFits rest inputs ≡ inputFits file inputs
   unfolding inputFits
   input-fits-same inputs =
-      fun-ext (λ i. ap₂ (λ (b : Bool) (n : Node). not b || fitsTest (n .kinds i) (given n inputs i)) (is-input-same i) node-same)
+      fun-ext (λ i. ap₂ (λ (b : Bool) (n : Node). not b || fitsTest (n .types i) (given n inputs i)) (is-input-same i) node-same)

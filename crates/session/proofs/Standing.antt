@@ -13,7 +13,7 @@ use lib.ListN.{length}
 use Rattle.answers.specs.Answer.{accepted, NodeValues}
 use Rattle.answers.proofs.Every.{every-of}
 use Rattle.answers.specs.Checks.{every}
-use Rattle.node.specs.Equations.{kindAt}
+use Rattle.node.specs.Equations.{typeAt}
 use Rattle.node.specs.Layout.{streamsOf}
 use Rattle.node.specs.Note.{withoutNote}
 use Rattle.node.specs.Verdict.{verdictOf}
@@ -48,7 +48,7 @@ pub record Standing (file : List ℕ) (done : List Answered) (s : Session) : Typ
       (u : Inputs) → StartsWith done (length done) u
       → (v : Streams) → Solution (nodeOf file) u v
       → SamePast (nodeOf file) (unstarted s) (valuesIn (s .last)) (before v (length done))
-  pub fits : unstarted s ≡ false → (i : ℕ) → i < streamsOf file → Fits (kindAt file i) (valuesIn (s .last) i)
+  pub fits : unstarted s ≡ false → (i : ℕ) → i < streamsOf file → Fits (typeAt file i) (valuesIn (s .last) i)
   pub shows : Shows file done
 
 module _ (file : List ℕ) {node : NodeValues} (e : verdictOf file ≡ accepted node) (done : List Answered) (s : Session) (stands : Standing file done s) where
@@ -60,9 +60,9 @@ module _ (file : List ℕ) {node : NodeValues} (e : verdictOf file ≡ accepted 
 
   last-fits : unstarted s ≡ false → every (valueTyped (held s) (s .last)) (streamsOf (held s)) ≡ true
   last-fits past =
-      ap (λ (n : Node). every (λ i. fitsTest (n .kinds i) (valuesIn (s .last) i)) (n .streams)) held-node
-      ∙ every-of (λ i. fitsTest (kindAt file i) (valuesIn (s .last) i)) (streamsOf file)
-      (λ i l. fits-test (kindAt file i) (valuesIn (s .last) i) .1 (stands .fits past i l))
+      ap (λ (n : Node). every (λ i. fitsTest (n .types i) (valuesIn (s .last) i)) (n .streams)) held-node
+      ∙ every-of (λ i. fitsTest (typeAt file i) (valuesIn (s .last) i)) (streamsOf file)
+      (λ i l. fits-test (typeAt file i) (valuesIn (s .last) i) .1 (stands .fits past i l))
 
   -- 30 passes
   pub holds-node : holdsNode s ≡ true
@@ -90,9 +90,9 @@ module _ (file : List ℕ) {node : NodeValues} (e : verdictOf file ≡ accepted 
         (Evaluations.instant-rows (nodeOf file) byNumber (upTo (streamsOf file)) (record-order (nodeOf file) wf) inputs (unstarted s) (s .last))
 
     -- every value worked out from typed inputs fits its type
-    pub worked-out-fits : TypedInstant (nodeOf file) inputs → (i : ℕ) → i < streamsOf file → Fits (kindAt file i) (valuesIn (workedOut s inputs) i)
+    pub worked-out-fits : TypedInstant (nodeOf file) inputs → (i : ℕ) → i < streamsOf file → Fits (typeAt file i) (valuesIn (workedOut s inputs) i)
     worked-out-fits typed i l =
-        instant-keeps (nodeOf file) byNumber (ranked-by-number (nodeOf file) wf) (λ k. Fits (kindAt file k)) inputs (unstarted s) (valuesIn (s .last)) (valuesIn (workedOut s inputs))
+        instant-keeps (nodeOf file) byNumber (ranked-by-number (nodeOf file) wf) (λ k. Fits (typeAt file k)) inputs (unstarted s) (valuesIn (s .last)) (valuesIn (workedOut s inputs))
         (types-kept (nodeOf file) wf inputs typed (unstarted s))
         worked-out-rows (stands .fits) (suc i) i l (lt-suc-self i)
 

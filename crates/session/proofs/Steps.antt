@@ -8,7 +8,7 @@ use native.Mathlib.Omega.{arith}
 use lib.IntN.{ℤ, pos}
 use lib.ListN.{length, List·getD-append}
 use Rattle.answers.specs.Answer.{Answer, accepted, refused, NodeValues, ifAccepted}
-use Rattle.node.specs.Equations.{kindAt}
+use Rattle.node.specs.Equations.{typeAt}
 use Rattle.node.specs.Layout.{streamsOf}
 use Rattle.node.specs.Verdict.{verdictOf}
 use Rattle.streams.specs.Instant.{filled}
@@ -58,7 +58,7 @@ module _ (file : List ℕ) {node : NodeValues} (e : verdictOf file ≡ accepted 
           last = λ u starts v solves.
               rw (more-length done (told s c))
               (λ past i l. last-is i l ∙ worked-is u (rw (more-length done (told s c)) at starts) v solves i l);
-          fits = λ past i l. subst (Fits (kindAt file i)) (sym (last-is i l)) (worked-out-fits file e done s stands (c .inputs) typed i l);
+          fits = λ past i l. subst (Fits (typeAt file i)) (sym (last-is i l)) (worked-out-fits file e done s stands (c .inputs) typed i l);
           shows =
               shows-more done (told s c) file e (stands .shows) typed
               (ap length slice-is ∙ worked-out-length file e done s stands (c .inputs))

@@ -7,7 +7,7 @@ use lib.IntN.{ℤ, pos}
 use lib.ListN.{length, take, replicate}
 use Rattle.answers.specs.Answer.{ifAccepted, isAccepted}
 use Rattle.answers.specs.Checks.{every}
-use Rattle.node.specs.Equations.{kindAt}
+use Rattle.node.specs.Equations.{typeAt}
 use Rattle.node.specs.Layout.{streamsOf}
 use Rattle.node.specs.Note.{withoutNote}
 use Rattle.node.specs.Verdict.{verdictOf}
@@ -42,7 +42,7 @@ unstarted s = eqb (s .started) 0
 
 -- value i of a list fits the type of stream i
 abbrev pub valueTyped : (file : List ℕ) → (values : List ℤ) → (i : ℕ) → Bool
-valueTyped file values i = fitsTest (kindAt file i) (valuesIn values i)
+valueTyped file values i = fitsTest (typeAt file i) (valuesIn values i)
 
 -- a node "passing 1 to 8", and, past instant 0, values of which each bool is "0 or 1"
 abbrev pub isNode : (file : List ℕ) → (first : Bool) → (last : List ℤ) → Bool

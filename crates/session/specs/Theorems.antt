@@ -12,7 +12,7 @@ use Rattle.answers.specs.declared.Place.{Place}
 use Rattle.answers.specs.declared.Place.the-variants.{File, Record as AtRecord}
 use Rattle.answers.specs.Answer.{Answer, accepted, refused, NodeValues}
 use Rattle.answers.specs.Checks.{check, checkAll, lowest}
-use Rattle.node.specs.Equations.{kindAt}
+use Rattle.node.specs.Equations.{typeAt}
 use Rattle.node.specs.Inputs.{isInput, inputCount}
 use Rattle.node.specs.Layout.{streamsOf}
 use Rattle.node.specs.Verdict.{verdictOf}
@@ -50,7 +50,7 @@ pub record Shows (file : List ℕ) (done : List Answered) : Type 0 where
 
 -- 33 in its own words: stream i is no input, or its input fits its type
 abbrev pub inputTyped : (file : List ℕ) → (inputs : List ℤ) → (i : ℕ) → Bool
-inputTyped file inputs i = not (isInput file i) || fitsTest (kindAt file i) (given (nodeOf file) inputs i)
+inputTyped file inputs i = not (isInput file i) || fitsTest (typeAt file i) (given (nodeOf file) inputs i)
 
 -- the whole answer to a call at an instant whose values are these: "30 never refuses one", then 31 to 34 in order
 abbrev pub answerGiven : (file : List ℕ) → Call → Values → Answer (Unit {0})

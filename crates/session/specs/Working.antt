@@ -5,14 +5,14 @@ use mathlib.Core.Bool.{Bool, cond}
 use lib.IntN.{ℤ}
 use lib.ListN.{take}
 use Rattle.node.specs.Layout.{streamsOf}
-use Rattle.session.specs.declared.holding.Held.{Held}
-use Rattle.session.specs.declared.holding.Held.the-variants.{Streams, NoNode}
+use Rattle.session.specs.declared.holding.HeldNode.{HeldNode}
+use Rattle.session.specs.declared.holding.HeldNode.the-variants.{Streams, NoNode}
 use Rattle.session.specs.Records.{isNode, holds}
 
 -- the node that a file holds
-unfoldable pub nodeIn : (file : List ℕ) → (first : Bool) → (last : List ℤ) → Held
+unfoldable pub nodeIn : (file : List ℕ) → (first : Bool) → (last : List ℤ) → HeldNode
 nodeIn file first last = cond (isNode file first last) (Streams (streamsOf file)) NoNode
 
 -- the node that a record with these parts holds
-unfoldable pub nodeHeld : (file : List ℕ) → (size : ℕ) → (first : Bool) → (last : List ℤ) → Held
+unfoldable pub nodeHeld : (file : List ℕ) → (size : ℕ) → (first : Bool) → (last : List ℤ) → HeldNode
 nodeHeld file size first last = cond (holds file size first last) (Streams (streamsOf (take size file))) NoNode

@@ -1,6 +1,6 @@
 // Whether a record holds a node.
 use answers::NodeVerdict;
-use node::kind_among;
+use node::type_among;
 use node::verdict;
 use streams::is_typed;
 use streams::number_at;
@@ -12,7 +12,7 @@ ghost use Rattle.session.specs.Records.{valueTyped};
 ghost use Rattle.session.specs.Working.{nodeIn, nodeHeld};
 
 // The node that a record holds: how many streams it has.
-pub enum Held {
+pub enum HeldNode {
     Streams(usize),
     NoNode,
 }
@@ -24,7 +24,7 @@ fn are_typed(file: &[u8], values: &[i64], n: usize) -> bool
 {
     let mut i = 0;
     while i < n {
-        if !is_typed(kind_among(file, n, i), number_at(values, i)) {
+        if !is_typed(type_among(file, n, i), number_at(values, i)) {
             return false;
         }
         i += 1;
@@ -33,7 +33,7 @@ fn are_typed(file: &[u8], values: &[i64], n: usize) -> bool
 }
 
 // The node of a file: before instant 0, or with the last answered values.
-fn node_in(file: &[u8], first: bool, last: &[i64]) -> Held
+fn node_in(file: &[u8], first: bool, last: &[i64]) -> HeldNode
     ensures { λ r. ⌜ r ≡ nodeIn (now (file .entry)) first (now (last .entry)) ⌝ }
 {
     match verdict(file) {
@@ -42,22 +42,22 @@ fn node_in(file: &[u8], first: bool, last: &[i64]) -> Held
             property: _,
         } => {
             if first | are_typed(file, last, streams) {
-                Held::Streams(streams)
+                HeldNode::Streams(streams)
             } else {
-                Held::NoNode
+                HeldNode::NoNode
             }
         }
-        NodeVerdict::Refused(_, _) => Held::NoNode,
+        NodeVerdict::Refused(_, _) => HeldNode::NoNode,
     }
 }
 
 // The node of a record with these parts. A record is anyone's to fill: its length is looked at before its file is.
-pub fn node_held(file: &[u8], size: usize, first: bool, last: &[i64]) -> Held
+pub fn node_held(file: &[u8], size: usize, first: bool, last: &[i64]) -> HeldNode
     requires { ⌜ length (now file) ≡ 1040 ⌝ }
     ensures { λ r. ⌜ r ≡ nodeHeld (now (file .entry)) size first (now (last .entry)) ⌝ }
 {
     if 1040 < size {
-        return Held::NoNode;
+        return HeldNode::NoNode;
     }
     node_in(&file[..size], first, last)
 }

@@ -1,6 +1,6 @@
 // The answer to an instant's call, and its values.
 use crate::Session;
-use crate::holding::Held;
+use crate::holding::HeldNode;
 use crate::holding::node_held;
 use crate::refusals;
 use answers::Found;
@@ -40,7 +40,7 @@ pub fn outcome_of(s: Session, inputs: &[i64], room: usize) -> Outcome
     let file = s.file;
     let last = s.last;
     let first = s.started == 0;
-    let Held::Streams(n) = node_held(&file, length, first, &last) else {
+    let HeldNode::Streams(n) = node_held(&file, length, first, &last) else {
         return refused(refusals::NO_NODE, Place::File);
     };
     let node = &file[..length];

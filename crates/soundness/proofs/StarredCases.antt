@@ -11,7 +11,7 @@ use Rattle.fields.specs.Fields.{twosComplement}
 use Rattle.answers.specs.declared.Place.the-variants.{File, Record as AtRecord, Line as AtLine, Base}
 use Rattle.answers.specs.Answer.{Answer, accepted, refused, NodeValues, ifAccepted}
 use Rattle.answers.specs.Checks.{lowest, every}
-use Rattle.node.specs.Equations.{kindAmong, decoded}
+use Rattle.node.specs.Equations.{typeAmong, decoded}
 use Rattle.node.specs.Inputs.{inputsBelow}
 use Rattle.node.specs.Layout.{streamsOf, recordsOf, recordAmong}
 use Rattle.node.specs.Note.{noteLength}
@@ -71,31 +71,31 @@ answers-by c known =
     }
 
 both-asked : Computed bothAsked
-unfolding twoBands nodeFile recordBytes trailerBytes nodeVerdict recordsVerdict lengthOk fixedOk countsOk distanceOk lowest shapeOk unusedOk operandsOk typesOk propertyOk rowOf recordsOf recordAmong twosComplement every kindAmong decoded inputsBelow noteLength upTo evaluated instant equals truth inputFits instantOf answerOf holdsNode inside
+unfolding twoBands nodeFile recordBytes trailerBytes nodeVerdict recordsVerdict lengthOk fixedOk countsOk distanceOk lowest shapeOk unusedOk operandsOk typesOk propertyOk rowOf recordsOf recordAmong twosComplement every typeAmong decoded inputsBelow noteLength upTo evaluated instant equals truth inputFits instantOf answerOf holdsNode inside
 both-asked = record { node = record { streams = 6; property = 5 }; is-accepted = refl; answered = refl; values = refl }
 
 greatest-doubled : Computed greatestDoubled
-unfolding doubling nodeFile recordBytes trailerBytes nodeVerdict recordsVerdict lengthOk fixedOk countsOk distanceOk lowest shapeOk unusedOk operandsOk typesOk propertyOk rowOf recordsOf recordAmong twosComplement every kindAmong decoded inputsBelow noteLength upTo evaluated instant equals truth inputFits instantOf answerOf holdsNode inside
+unfolding doubling nodeFile recordBytes trailerBytes nodeVerdict recordsVerdict lengthOk fixedOk countsOk distanceOk lowest shapeOk unusedOk operandsOk typesOk propertyOk rowOf recordsOf recordAmong twosComplement every typeAmong decoded inputsBelow noteLength upTo evaluated instant equals truth inputFits instantOf answerOf holdsNode inside
 greatest-doubled = record { node = record { streams = 3; property = 2 }; is-accepted = refl; answered = refl; values = refl }
 
 one-more : Holds (refuses doubling (pos 4611686018427387904 ∷ []) 34 (AtRecord 1))
-unfolding doubling nodeFile recordBytes trailerBytes nodeVerdict recordsVerdict lengthOk fixedOk countsOk distanceOk lowest shapeOk unusedOk operandsOk typesOk propertyOk rowOf recordsOf recordAmong twosComplement every kindAmong decoded inputsBelow noteLength upTo evaluated instant equals truth inputFits instantOf answerOf holdsNode inside
+unfolding doubling nodeFile recordBytes trailerBytes nodeVerdict recordsVerdict lengthOk fixedOk countsOk distanceOk lowest shapeOk unusedOk operandsOk typesOk propertyOk rowOf recordsOf recordAmong twosComplement every typeAmong decoded inputsBelow noteLength upTo evaluated instant equals truth inputFits instantOf answerOf holdsNode inside
 one-more = refl
 
 least-doubled : Computed leastDoubled
-unfolding doubling nodeFile recordBytes trailerBytes nodeVerdict recordsVerdict lengthOk fixedOk countsOk distanceOk lowest shapeOk unusedOk operandsOk typesOk propertyOk rowOf recordsOf recordAmong twosComplement every kindAmong decoded inputsBelow noteLength upTo evaluated instant equals truth inputFits instantOf answerOf holdsNode inside
+unfolding doubling nodeFile recordBytes trailerBytes nodeVerdict recordsVerdict lengthOk fixedOk countsOk distanceOk lowest shapeOk unusedOk operandsOk typesOk propertyOk rowOf recordsOf recordAmong twosComplement every typeAmong decoded inputsBelow noteLength upTo evaluated instant equals truth inputFits instantOf answerOf holdsNode inside
 least-doubled = record { node = record { streams = 3; property = 2 }; is-accepted = refl; answered = refl; values = refl }
 
 opposites-pass : Holds (checks trueAndInts (opposites (minusOne 8) (noughts 8)) (accepted (record { depth = 1; base = 4; step = 3 })))
-unfolding trueAndInts opposites atMost nodeFile recordBytes trailerBytes nodeVerdict recordsVerdict lengthOk fixedOk countsOk distanceOk lowest shapeOk unusedOk operandsOk typesOk propertyOk rowOf recordsOf recordAmong twosComplement line certificateFile certFixed certCounts certDistance verdictOf fileVerdict beforeLines constraintsVerdict partsVerdict linesVerdict every shapePasses lineShape slotOk numbersOk namesAtom lineFault kindFault kindAmong decoded equationIn clauseIs basePropertyOk stepPropertyOk listedIn standsFrom joins joinOk constraintOk termOk usedOk rises termUnused usedIn written sumOf arithmeticOk
+unfolding trueAndInts opposites atMost nodeFile recordBytes trailerBytes nodeVerdict recordsVerdict lengthOk fixedOk countsOk distanceOk lowest shapeOk unusedOk operandsOk typesOk propertyOk rowOf recordsOf recordAmong twosComplement line certificateFile certFixed certCounts certDistance verdictOf fileVerdict beforeLines constraintsVerdict partsVerdict linesVerdict every shapePasses lineShape slotOk numbersOk namesAtom lineFault kindFault typeAmong decoded equationIn clauseIs basePropertyOk stepPropertyOk listedIn standsFrom joins joinOk constraintOk termOk usedOk rises termUnused usedIn written sumOf arithmeticOk
 opposites-pass = refl
 
 opposites-fail : Holds (checks trueAndInts (opposites (noughts 8) (noughts 8)) (refused 20 (AtLine 3)))
-unfolding trueAndInts opposites atMost nodeFile recordBytes trailerBytes nodeVerdict recordsVerdict lengthOk fixedOk countsOk distanceOk lowest shapeOk unusedOk operandsOk typesOk propertyOk rowOf recordsOf recordAmong twosComplement line certificateFile certFixed certCounts certDistance verdictOf fileVerdict beforeLines constraintsVerdict partsVerdict linesVerdict every shapePasses lineShape slotOk numbersOk namesAtom lineFault kindFault kindAmong decoded equationIn clauseIs basePropertyOk stepPropertyOk listedIn standsFrom joins joinOk constraintOk termOk usedOk rises termUnused usedIn written sumOf arithmeticOk
+unfolding trueAndInts opposites atMost nodeFile recordBytes trailerBytes nodeVerdict recordsVerdict lengthOk fixedOk countsOk distanceOk lowest shapeOk unusedOk operandsOk typesOk propertyOk rowOf recordsOf recordAmong twosComplement line certificateFile certFixed certCounts certDistance verdictOf fileVerdict beforeLines constraintsVerdict partsVerdict linesVerdict every shapePasses lineShape slotOk numbersOk namesAtom lineFault kindFault typeAmong decoded equationIn clauseIs basePropertyOk stepPropertyOk listedIn standsFrom joins joinOk constraintOk termOk usedOk rises termUnused usedIn written sumOf arithmeticOk
 opposites-fail = refl
 
 depth-8 : Holds (checks constantTrue (ofDepth 8) (accepted (record { depth = 8; base = 17; step = 3 })))
-unfolding constantTrue ofDepth nodeFile recordBytes trailerBytes nodeVerdict recordsVerdict lengthOk fixedOk countsOk distanceOk lowest shapeOk unusedOk operandsOk typesOk propertyOk rowOf recordsOf recordAmong twosComplement line certificateFile certFixed certCounts certDistance verdictOf fileVerdict beforeLines constraintsVerdict partsVerdict linesVerdict every shapePasses lineShape slotOk numbersOk namesAtom lineFault kindFault kindAmong decoded equationIn clauseIs basePropertyOk stepPropertyOk listedIn standsFrom joins joinOk
+unfolding constantTrue ofDepth nodeFile recordBytes trailerBytes nodeVerdict recordsVerdict lengthOk fixedOk countsOk distanceOk lowest shapeOk unusedOk operandsOk typesOk propertyOk rowOf recordsOf recordAmong twosComplement line certificateFile certFixed certCounts certDistance verdictOf fileVerdict beforeLines constraintsVerdict partsVerdict linesVerdict every shapePasses lineShape slotOk numbersOk namesAtom lineFault kindFault typeAmong decoded equationIn clauseIs basePropertyOk stepPropertyOk listedIn standsFrom joins joinOk
 depth-8 = refl
 
 depth-9 : Holds (checks constantTrue (ofDepth 9) (refused 13 File))
@@ -111,11 +111,11 @@ unfolding ofSize nodeFile recordBytes trailerBytes nodeVerdict recordsVerdict le
 size-65 = refl
 
 bands-whole : Holds (checks twoBands bandsWhole (accepted (record { depth = 1; base = 12; step = 12 })))
-unfolding twoBands bandsWhole nodeFile recordBytes trailerBytes nodeVerdict recordsVerdict lengthOk fixedOk countsOk distanceOk lowest shapeOk unusedOk operandsOk typesOk propertyOk rowOf recordsOf recordAmong twosComplement line certificateFile certFixed certCounts certDistance verdictOf fileVerdict beforeLines constraintsVerdict partsVerdict linesVerdict every shapePasses lineShape slotOk numbersOk namesAtom lineFault kindFault kindAmong decoded equationIn clauseIs basePropertyOk stepPropertyOk listedIn standsFrom joins joinOk
+unfolding twoBands bandsWhole nodeFile recordBytes trailerBytes nodeVerdict recordsVerdict lengthOk fixedOk countsOk distanceOk lowest shapeOk unusedOk operandsOk typesOk propertyOk rowOf recordsOf recordAmong twosComplement line certificateFile certFixed certCounts certDistance verdictOf fileVerdict beforeLines constraintsVerdict partsVerdict linesVerdict every shapePasses lineShape slotOk numbersOk namesAtom lineFault kindFault typeAmong decoded equationIn clauseIs basePropertyOk stepPropertyOk listedIn standsFrom joins joinOk
 bands-whole = refl
 
 no-base-lines : Holds (checks twoBands stepAlone (refused 21 Base))
-unfolding twoBands stepAlone nodeFile recordBytes trailerBytes nodeVerdict recordsVerdict lengthOk fixedOk countsOk distanceOk lowest shapeOk unusedOk operandsOk typesOk propertyOk rowOf recordsOf recordAmong twosComplement line certificateFile certFixed certCounts certDistance verdictOf fileVerdict beforeLines constraintsVerdict partsVerdict linesVerdict every shapePasses lineShape slotOk numbersOk namesAtom lineFault kindFault kindAmong decoded equationIn clauseIs basePropertyOk stepPropertyOk listedIn standsFrom joins joinOk
+unfolding twoBands stepAlone nodeFile recordBytes trailerBytes nodeVerdict recordsVerdict lengthOk fixedOk countsOk distanceOk lowest shapeOk unusedOk operandsOk typesOk propertyOk rowOf recordsOf recordAmong twosComplement line certificateFile certFixed certCounts certDistance verdictOf fileVerdict beforeLines constraintsVerdict partsVerdict linesVerdict every shapePasses lineShape slotOk numbersOk namesAtom lineFault kindFault typeAmong decoded equationIn clauseIs basePropertyOk stepPropertyOk listedIn standsFrom joins joinOk
 no-base-lines = refl
 
 pub starred : Starred

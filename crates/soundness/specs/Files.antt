@@ -7,8 +7,8 @@ use Rattle.fields.specs.Written.{u16Bytes, u32Bytes}
 use Rattle.node.specs.declared.layout.Record.{Record}
 
 -- a record by its fields, the last four bytes zero
-abbrev pub rec : (op kind a b c : ℕ) → (k : ℤ) → Record
-rec op kind a b c k = record { op = op; kind = kind; a = a; b = b; c = c; k = k; rest = 0 }
+abbrev pub rec : (op ty a b c : ℕ) → (k : ℤ) → Record
+rec op ty a b c k = record { op = op; ty = ty; a = a; b = b; c = c; k = k; rest = 0 }
 
 -- the rest of so many bytes is zero
 abbrev pub padded : (n : ℕ) → List ℕ → List ℕ

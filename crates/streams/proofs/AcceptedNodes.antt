@@ -9,7 +9,7 @@ use Rattle.answers.specs.Answer.{accepted, NodeValues}
 use Rattle.node.specs.Layout.{streamsOf}
 use Rattle.node.specs.Verdict.{verdictOf}
 use Rattle.node.proofs.WellFormedness.{accepted-well-formed}
-use Rattle.node.specs.declared.equation.Kind.{Kind}
+use Rattle.node.specs.declared.equation.StreamType.{StreamType}
 use Rattle.streams.specs.Evaluation.{upTo, instants}
 use Rattle.streams.specs.Nodes.{Node, nodeOf, WellFormedNode}
 use Rattle.streams.specs.Solutions.{Streams, Solution}
@@ -45,7 +45,7 @@ module _ (s : List ℕ) {node : NodeValues} (e : verdictOf s ≡ accepted node) 
       record {
         exists = λ inputs typed. (worked-out (nodeOf s) wf inputs, worked-out-solves (nodeOf s) wf inputs typed);
         same = λ inputs v w of-v of-w t. depends (nodeOf s) wf inputs inputs v w of-v of-w t (λ j l. refl);
-        bools = λ inputs v of-v t i l bool. zero-or-one (v t i) (subst (λ (k : Kind). Fits k (v t i)) bool (of-v .fits t i l));
+        bools = λ inputs v of-v t i l bool. zero-or-one (v t i) (subst (λ (k : StreamType). Fits k (v t i)) bool (of-v .fits t i l));
       }
 
   pub depends-only-on-past : DependsOnlyOnPast s

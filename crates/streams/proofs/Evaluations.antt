@@ -34,46 +34,46 @@ module _ (node : Node) (order : List ℕ) (inputs : List ℤ) (first : Bool) whe
 module _ (node : Node) (rank : ℕ → ℕ) (order : List ℕ) (is : Order node rank order) where
   module _ (inputs : List ℤ) (first : Bool) (past : Values) (start : List ℤ) (room : node .streams ≤ length start) where
     -- the array after the first k streams
-    abbrev after : ℕ → List ℤ
-    after k = evaluated node order inputs first past start k
+    abbrev soFar : ℕ → List ℤ
+    soFar k = evaluated node order inputs first past start k
 
     -- one stream more: streams of other ranks keep their values
-    other : (k s : ℕ) → k < length order → rank s ≢ k → valuesIn (after (suc k)) s ≡ valuesIn (after k) s
+    other : (k s : ℕ) → k < length order → rank s ≢ k → valuesIn (soFar (suc k)) s ≡ valuesIn (soFar k) s
     unfolding evaluated
-    other k s l n = getD-set-other (after k) (getD order k 0) s _ (pos 0) (λ e. n (ap rank e ∙ is .rank-at k l))
+    other k s l n = getD-set-other (soFar k) (getD order k 0) s _ (pos 0) (λ e. n (ap rank e ∙ is .rank-at k l))
 
     -- .. and the row of a stream of this rank or a lower one, which reads only lower ones now, keeps its value
-    row-kept : (k s : ℕ) → k < length order → s < node .streams → rank s ≤ k → row node inputs first past s (valuesIn (after (suc k))) ≡ row node inputs first past s (valuesIn (after k))
+    row-kept : (k s : ℕ) → k < length order → s < node .streams → rank s ≤ k → row node inputs first past s (valuesIn (soFar (suc k))) ≡ row node inputs first past s (valuesIn (soFar k))
     row-kept k s l b h =
         row-same node rank (is .ranked) inputs first past _ past _ s b
         (λ r ok now. other k (r .stream) l (omega (arith, ok .lower now)))
         (λ e i m. refl)
 
     -- the stream itself has its row's value
-    own : (k s : ℕ) → k < length order → s < node .streams → rank s ≡ k → valuesIn (after (suc k)) s ≡ row node inputs first past s (valuesIn (after k))
+    own : (k s : ℕ) → k < length order → s < node .streams → rank s ≡ k → valuesIn (soFar (suc k)) s ≡ row node inputs first past s (valuesIn (soFar k))
     unfolding evaluated
     own k s l b e =
         let at : getD order k 0 ≡ s = ap (λ (j : ℕ). getD order j 0) (sym e) ∙ is .at-rank s b in
-        rw at (getD-set-same (after k) s _ (pos 0) (omega (arith, evaluated-length node order inputs first past start k)))
+        rw at (getD-set-same (soFar k) s _ (pos 0) (omega (arith, evaluated-length node order inputs first past start k)))
 
-    pub evaluated-rows : (k : ℕ) → k ≤ length order → RowsTo node rank inputs first past (valuesIn (after k)) k
+    pub evaluated-rows : (k : ℕ) → k ≤ length order → RowsTo node rank inputs first past (valuesIn (soFar k)) k
     evaluated-rows zero l s b h = absurd (not-suc-le-zero h)
     evaluated-rows (suc k) l s b h = go (eq-or-lt-of-le (le-of-suc-le-suc h)) (evaluated-rows k (omega arith) s b)
       where
-        go : (rank s ≡ k) ⊎ (rank s < k) → (rank s < k → valuesIn (after k) s ≡ row node inputs first past s (valuesIn (after k))) → valuesIn (after (suc k)) s ≡ row node inputs first past s (valuesIn (after (suc k)))
+        go : (rank s ≡ k) ⊎ (rank s < k) → (rank s < k → valuesIn (soFar k) s ≡ row node inputs first past s (valuesIn (soFar k))) → valuesIn (soFar (suc k)) s ≡ row node inputs first past s (valuesIn (soFar (suc k)))
         go (inl e) before = own k s l b e ∙ sym (row-kept k s l b (omega arith))
         go (inr m) before = other k s l (omega arith) ∙ before m ∙ sym (row-kept k s l b (omega arith))
 
     -- the array so far holds the values of all streams of lower ranks, whatever values keep the rows ..
-    pub evaluated-is : (p v : Values) → SamePast node first past p → Rows node inputs first p v → (k : ℕ) → k ≤ length order → (s : ℕ) → s < node .streams → rank s < k → valuesIn (after k) s ≡ v s
+    pub evaluated-is : (p v : Values) → SamePast node first past p → Rows node inputs first p v → (k : ℕ) → k ≤ length order → (s : ℕ) → s < node .streams → rank s < k → valuesIn (soFar k) s ≡ v s
     evaluated-is p v same rows k l =
-        agree-to node rank (is .ranked) inputs first past (valuesIn (after k)) p v same k (evaluated-rows k l) (λ s b h. rows s b)
+        agree-to node rank (is .ranked) inputs first past (valuesIn (soFar k)) p v same k (evaluated-rows k l) (λ s b h. rows s b)
 
     -- .. and the next stream's row gives its value
-    pub next-value : (p v : Values) → SamePast node first past p → Rows node inputs first p v → (k : ℕ) → k < length order → row node inputs first past (getD order k 0) (valuesIn (after k)) ≡ v (getD order k 0)
+    pub next-value : (p v : Values) → SamePast node first past p → Rows node inputs first p v → (k : ℕ) → k < length order → row node inputs first past (getD order k 0) (valuesIn (soFar k)) ≡ v (getD order k 0)
     next-value p v same rows k l =
         let b : getD order k 0 < node .streams = is .names k l in
-        row-same node rank (is .ranked) inputs first past (valuesIn (after k)) p v (getD order k 0) b
+        row-same node rank (is .ranked) inputs first past (valuesIn (soFar k)) p v (getD order k 0) b
         (λ r ok now. evaluated-is p v same rows k (omega arith) (r .stream) (ok .below) (omega (arith, ok .lower now, is .rank-at k l)))
         same
         ∙ sym (rows (getD order k 0) b)

@@ -10,8 +10,8 @@ use lib.IntN.{ℤ, pos, negsuc}
 use lib.Signed.{leZ, leZ-yes}
 use Rattle.integers.proofs.Order.{leZ-true, ≤ℤ-antisym, ≤ℤ-refl}
 use Rattle.answers.proofs.Tests.{both-true}
-use Rattle.node.specs.declared.equation.Kind.{Kind}
-use Rattle.node.specs.declared.equation.Kind.the-variants.{Bool as BoolKind, Int as IntKind}
+use Rattle.node.specs.declared.equation.StreamType.{StreamType}
+use Rattle.node.specs.declared.equation.StreamType.the-variants.{Bool as BoolType, Int as IntType}
 use Rattle.streams.specs.Typing.{Fits, fitsTest}
 use Rattle.streams.specs.Values.{number, equals, truth}
 
@@ -27,25 +27,25 @@ unfolding truth equals
 truth-number true = refl
 truth-number false = refl
 
-pub number-fits : (b : Bool) → Fits BoolKind (number b)
+pub number-fits : (b : Bool) → Fits BoolType (number b)
 number-fits true = (leZ-yes tt, leZ-yes tt)
 number-fits false = (leZ-yes tt, leZ-yes tt)
 
-pub zero-or-one : (z : ℤ) → Fits BoolKind z → (z ≡ pos 0) ⊎ (z ≡ pos 1)
+pub zero-or-one : (z : ℤ) → Fits BoolType z → (z ≡ pos 0) ⊎ (z ≡ pos 1)
 zero-or-one (pos zero) f = inl refl
 zero-or-one (pos (suc zero)) f = inr refl
 zero-or-one (pos (suc (suc n))) f = absurd (omega (arith, leb→le (suc (suc n)) 1 (f .1 .le)))
 zero-or-one (negsuc n) f = absurd (f .0 .le)
 
-pub fits-test : (k : Kind) (z : ℤ) → (fitsTest k z ≡ true) ↔ Fits k z
-fits-test BoolKind z = (
+pub fits-test : (k : StreamType) (z : ℤ) → (fitsTest k z ≡ true) ↔ Fits k z
+fits-test BoolType z = (
   λ e. let t = both-true (leZ (pos 0) z) (leZ z (pos 1)) e in (leZ-true (pos 0) z .0 (t .0), leZ-true z (pos 1) .0 (t .1)),
   λ f. rw (leZ-true (pos 0) z .1 (f .0), leZ-true z (pos 1) .1 (f .1)),
 )
-fits-test IntKind z = (λ e. tt, λ f. refl)
+fits-test IntType z = (λ e. tt, λ f. refl)
 
 -- a value of type bool is known by its truth
-pub number-truth : (z : ℤ) → Fits BoolKind z → number (truth z) ≡ z
+pub number-truth : (z : ℤ) → Fits BoolType z → number (truth z) ≡ z
 number-truth z f = go (zero-or-one z f)
   where
     go : (z ≡ pos 0) ⊎ (z ≡ pos 1) → number (truth z) ≡ z

@@ -51,7 +51,7 @@ upTo-at (suc n) k l =
 
 pub ranked-by-number : (node : Node) → WellFormedNode node → Ranked node byNumber
 ranked-by-number node wf s l =
-    all-map {P = ReadOk (node .streams) (node .kinds) s} {Q = Settled (node .streams) byNumber s}
+    all-map {P = ReadOk (node .streams) (node .types) s} {Q = Settled (node .streams) byNumber s}
     (λ r ok. record { below = ok .below; lower = ok .lower })
     (reads (node .equations s)) (wf .operands s l)
 

@@ -6,12 +6,12 @@ use mathlib.Core.List.{List}
 use Prim.Native.Nat.{ℕ, _<_}
 use lib.IntN.{ℤ}
 use lib.Signed.{leZ}
-use Rattle.node.specs.declared.equation.Kind.{Kind}
-use Rattle.node.specs.declared.equation.Kind.the-variants.{Bool as BoolKind, Int as IntKind}
+use Rattle.node.specs.declared.equation.StreamType.{StreamType}
+use Rattle.node.specs.declared.equation.StreamType.the-variants.{Bool as BoolType, Int as IntType}
 use Rattle.node.specs.declared.equation.Equation.{Equation}
 use Rattle.node.specs.declared.equation.Equation.the-variants.{Input, Constant, Not, And, Or, Same, Sum, Difference, Multiple, AtMost, Equal, If, Arrow, FollowedBy}
 use Rattle.node.specs.declared.table.Limit.the-variants.{Value}
-use Rattle.node.specs.Reads.{rowFor, reads, yields, wantedKind, All, ReadOk, InRange, ConstantOk}
+use Rattle.node.specs.Reads.{rowFor, reads, yields, wantedType, All, ReadOk, InRange, ConstantOk}
 use Rattle.node.specs.Table.{rowOf}
 use Rattle.streams.specs.Meaning.{meaning}
 use Rattle.streams.specs.Nodes.{Node, WellFormedNode}
@@ -24,11 +24,11 @@ use Rattle.streams.proofs.Numbers.{number-fits}
 use Rattle.streams.proofs.Orders.{byNumber, ranked-by-number}
 use Rattle.streams.proofs.Reading.{all-map₂, found, isRead}
 
-constant-fits : (own : Kind) (k : ℤ) → InRange Value own k → Fits own k
-constant-fits BoolKind k c = c
-constant-fits IntKind k c = tt
+constant-fits : (own : StreamType) (k : ℤ) → InRange Value own k → Fits own k
+constant-fits BoolType k c = c
+constant-fits IntType k c = tt
 
-either-fits : (own : Kind) (b : Bool) (x y : ℤ) → Fits own x → Fits own y → Fits own (cond b x y)
+either-fits : (own : StreamType) (b : Bool) (x y : ℤ) → Fits own x → Fits own y → Fits own (cond b x y)
 either-fits own true x y f g = f
 either-fits own false x y f g = g
 
@@ -37,14 +37,14 @@ by-first : (P : Bool → Type 0) → P true × P false → (first : Bool) → P 
 by-first P ps true = ps .0
 by-first P ps false = ps .1
 
-a-bool : {own : Kind} (b : Bool) → own ≡ BoolKind → Fits own (number b)
-a-bool b e = subst (λ (k : Kind). Fits k (number b)) (sym e) (number-fits b)
+a-bool : {own : StreamType} (b : Bool) → own ≡ BoolType → Fits own (number b)
+a-bool b e = subst (λ (k : StreamType). Fits k (number b)) (sym e) (number-fits b)
 
-an-int : {own : Kind} (z : ℤ) → own ≡ IntKind → Fits own z
-an-int z e = subst (λ (k : Kind). Fits k z) (sym e) tt
+an-int : {own : StreamType} (z : ℤ) → own ≡ IntType → Fits own z
+an-int z e = subst (λ (k : StreamType). Fits k z) (sym e) tt
 
 -- one operator, over its stream's type
-pub meaning-fits : (own : Kind) (e : Equation) (g : ℤ) (f : Bool) (p v : Values) → own ≡ wantedKind own (yields e) → ConstantOk own e → (e ≡ Input → Fits own g) → All (λ r. isRead f r ≡ true → Fits (wantedKind own (r .wanted)) (found p v r)) (reads e) → Fits own (meaning e g f p v)
+pub meaning-fits : (own : StreamType) (e : Equation) (g : ℤ) (f : Bool) (p v : Values) → own ≡ wantedType own (yields e) → ConstantOk own e → (e ≡ Input → Fits own g) → All (λ r. isRead f r ≡ true → Fits (wantedType own (r .wanted)) (found p v r)) (reads e) → Fits own (meaning e g f p v)
 unfolding rowOf rowFor reads
 meaning-fits own Input g f p v y c i h = i refl
 meaning-fits own (Constant k) g f p v y c i h = constant-fits own k c
@@ -63,14 +63,14 @@ meaning-fits own (FollowedBy a b) g true p v y c i h = h .0 refl
 meaning-fits own (FollowedBy a b) g false p v y c i h = h .1 .0 refl
 
 -- on typed inputs every row keeps its stream's type
-pub types-kept : (node : Node) → WellFormedNode node → (inputs : List ℤ) → TypedInstant node inputs → (first : Bool) → Keeps node (λ s. Fits (node .kinds s)) inputs first
+pub types-kept : (node : Node) → WellFormedNode node → (inputs : List ℤ) → TypedInstant node inputs → (first : Bool) → Keeps node (λ s. Fits (node .types s)) inputs first
 types-kept node wf inputs typed first s l p v h =
-    meaning-fits (node .kinds s) (node .equations s) (given node inputs s) first p v (wf .own s l) (wf .constants s l) (typed .fits s l)
-    (all-map₂ {P = ReadOk (node .streams) (node .kinds) s} {R = λ r. isRead first r ≡ true → Fits (wantedKind (node .kinds s) (r .wanted)) (found p v r)}
-    (λ r ok fits e. subst (λ (k : Kind). Fits k (found p v r)) (ok .typed) (fits e))
+    meaning-fits (node .types s) (node .equations s) (given node inputs s) first p v (wf .own s l) (wf .constants s l) (typed .fits s l)
+    (all-map₂ {P = ReadOk (node .streams) (node .types) s} {R = λ r. isRead first r ≡ true → Fits (wantedType (node .types s) (r .wanted)) (found p v r)}
+    (λ r ok fits e. subst (λ (k : StreamType). Fits k (found p v r)) (ok .typed) (fits e))
     (reads (node .equations s)) (wf .operands s l) h)
 
-pub rows-fit : (node : Node) → WellFormedNode node → (inputs : Inputs) → TypedInputs node inputs → (values : Streams) → AllRows node inputs values → (t s : ℕ) → s < node .streams → Fits (node .kinds s) (values t s)
+pub rows-fit : (node : Node) → WellFormedNode node → (inputs : Inputs) → TypedInputs node inputs → (values : Streams) → AllRows node inputs values → (t s : ℕ) → s < node .streams → Fits (node .types s) (values t s)
 rows-fit node wf inputs typed values rows =
-    solution-keeps node byNumber (ranked-by-number node wf) (λ s. Fits (node .kinds s)) inputs values rows
+    solution-keeps node byNumber (ranked-by-number node wf) (λ s. Fits (node .types s)) inputs values rows
     (λ t. types-kept node wf (inputs t) (typed t) (isFirst t))

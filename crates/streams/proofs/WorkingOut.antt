@@ -20,7 +20,7 @@ use Rattle.integers.specs.declared.Checked.the-variants.{Value, Outside}
 use Rattle.integers.specs.Range.{inside, checkedOf}
 use Rattle.answers.specs.declared.Found.{Found}
 use Rattle.answers.specs.declared.Found.the-variants.{At, Nothing}
-use Rattle.answers.specs.Checks.{lowest, orAt}
+use Rattle.answers.specs.Checks.{lowest, orElse}
 use Rattle.node.specs.Layout.{streamsOf, recordsOf}
 use Rattle.node.proofs.Records.{records-le}
 use Rattle.streams.specs.Evaluation.{upTo, worked, evaluated, instant}
@@ -36,7 +36,7 @@ at-nothing : {A : Type 0} {i : ℕ} → At i ≡ Nothing → A
 at-nothing e = let n : _≡_ {A = ℕ} 0 1 = cc in absurd (omega arith)
 
 -- where nothing is found the test has passed
-nothing-ok : (ok : Bool) (i : ℕ) → orAt Nothing ok i ≡ Nothing → ok ≡ true
+nothing-ok : (ok : Bool) (i : ℕ) → orElse Nothing ok i ≡ Nothing → ok ≡ true
 nothing-ok true i e = refl
 nothing-ok false i e = at-nothing e
 
@@ -63,8 +63,8 @@ counted file = (le-trans (min-le-left (recordsOf file) 64) (records-le file), mi
 
 module _ (file : List ℕ) (inputs : List ℤ) (first : Bool) (past : List ℤ) where
   -- the array after the first k streams
-  abbrev after : (k : ℕ) → List ℤ
-  after k =
+  abbrev soFar : (k : ℕ) → List ℤ
+  soFar k =
       evaluated (nodeOf file) (upTo (streamsOf file)) inputs first (valuesIn past) (replicate (streamsOf file) (pos 0)) k
 
   -- the value of stream i from the values of an array
@@ -73,67 +73,67 @@ module _ (file : List ℕ) (inputs : List ℤ) (first : Bool) (past : List ℤ) 
 
   -- an array holds the values so far
   abbrev pub Holds : (present : List ℤ) → (i : ℕ) → Type 0
-  Holds present i = (x : ℕ) → getD present x (pos 0) ≡ getD (after i) x (pos 0)
+  Holds present i = (x : ℕ) → getD present x (pos 0) ≡ getD (soFar i) x (pos 0)
 
-  after-length : (k : ℕ) → length (after k) ≡ streamsOf file
+  after-length : (k : ℕ) → length (soFar k) ≡ streamsOf file
   after-length k =
       evaluated-length (nodeOf file) (upTo (streamsOf file)) inputs first (valuesIn past) (replicate (streamsOf file) (pos 0)) k
       ∙ length-replicate (streamsOf file) (pos 0)
 
-  after-more : (i : ℕ) → i < streamsOf file → after (suc i) ≡ set (after i) i (valueFrom i (after i))
+  after-more : (i : ℕ) → i < streamsOf file → soFar (suc i) ≡ set (soFar i) i (valueFrom i (soFar i))
   unfolding evaluated
   after-more i l = rw (upTo-at (streamsOf file) i l)
 
-  instant-is : instantOf file inputs first past ≡ after (streamsOf file)
+  instant-is : instantOf file inputs first past ≡ soFar (streamsOf file)
   unfolding instantOf instant
-  instant-is = ap after (upTo-length (streamsOf file))
+  instant-is = ap soFar (upTo-length (streamsOf file))
 
   -- a stream past the first i has no value yet
-  unset : (i x : ℕ) → i ≤ x → i ≤ streamsOf file → getD (after i) x (pos 0) ≡ pos 0
+  unset : (i x : ℕ) → i ≤ x → i ≤ streamsOf file → getD (soFar i) x (pos 0) ≡ pos 0
   unfolding evaluated
   unset zero x l h = same-everywhere (streamsOf file) x (pos 0)
   unset (suc i) x l h =
-      rw (after-more i h) (getD-set-other (after i) i x _ (pos 0) (λ e. omega arith) ∙ unset i x (omega arith) (omega arith))
+      rw (after-more i h) (getD-set-other (soFar i) i x _ (pos 0) (λ e. omega arith) ∙ unset i x (omega arith) (omega arith))
 
   -- a value that is set stays
-  stays : (x i k : ℕ) → x < i → i ≤ k → k ≤ streamsOf file → getD (after k) x (pos 0) ≡ getD (after i) x (pos 0)
+  stays : (x i k : ℕ) → x < i → i ≤ k → k ≤ streamsOf file → getD (soFar k) x (pos 0) ≡ getD (soFar i) x (pos 0)
   stays x i zero l m h = absurd (not-suc-le-zero (le-trans l m))
   stays x i (suc k) l m h = go (eq-or-lt-of-le m) (λ n. stays x i k l (le-of-suc-le-suc n) (omega arith))
     where
-      go : (i ≡ suc k) ⊎ (i < suc k) → (i < suc k → getD (after k) x (pos 0) ≡ getD (after i) x (pos 0)) → getD (after (suc k)) x (pos 0) ≡ getD (after i) x (pos 0)
+      go : (i ≡ suc k) ⊎ (i < suc k) → (i < suc k → getD (soFar k) x (pos 0) ≡ getD (soFar i) x (pos 0)) → getD (soFar (suc k)) x (pos 0) ≡ getD (soFar i) x (pos 0)
       go (inl e) before = rw e
-      go (inr n) before = rw (after-more k h) (getD-set-other (after k) k x _ (pos 0) (λ e. omega arith) ∙ before n)
+      go (inr n) before = rw (after-more k h) (getD-set-other (soFar k) k x _ (pos 0) (λ e. omega arith) ∙ before n)
 
-  value-is-row : (i : ℕ) → i < streamsOf file → valuesIn (instantOf file inputs first past) i ≡ valueFrom i (after i)
+  value-is-row : (i : ℕ) → i < streamsOf file → valuesIn (instantOf file inputs first past) i ≡ valueFrom i (soFar i)
   value-is-row i l =
       rw instant-is
       (stays i (suc i) (streamsOf file) (lt-suc-self i) l (le-refl (streamsOf file))
-      ∙ rw (after-more i l) (getD-set-same (after i) i _ (pos 0) (omega (arith, after-length i))))
+      ∙ rw (after-more i l) (getD-set-same (soFar i) i _ (pos 0) (omega (arith, after-length i))))
 
   pub holds-start : Holds (replicate 64 (pos 0)) 0
   unfolding evaluated
   holds-start x = same-everywhere 64 x (pos 0) ∙ sym (same-everywhere (streamsOf file) x (pos 0))
 
   -- the first k streams, and nothing past them
-  first-values : (k : ℕ) → k ≤ streamsOf file → (x : ℕ) → getD (after k) x (pos 0) ≡ getD (take k (after (streamsOf file))) x (pos 0)
+  first-values : (k : ℕ) → k ≤ streamsOf file → (x : ℕ) → getD (soFar k) x (pos 0) ≡ getD (take k (soFar (streamsOf file))) x (pos 0)
   first-values k h x = by (ltb x k) refl
     where
-      size : length (take k (after (streamsOf file))) ≡ k
-      size = length-take-le k (after (streamsOf file)) (omega (arith, after-length (streamsOf file)))
+      size : length (take k (soFar (streamsOf file))) ≡ k
+      size = length-take-le k (soFar (streamsOf file)) (omega (arith, after-length (streamsOf file)))
 
-      by : (b : Bool) → ltb x k ≡ b → getD (after k) x (pos 0) ≡ getD (take k (after (streamsOf file))) x (pos 0)
+      by : (b : Bool) → ltb x k ≡ b → getD (soFar k) x (pos 0) ≡ getD (take k (soFar (streamsOf file))) x (pos 0)
       by true e =
           let l : x < k = ltb-true x k e in
           sym (rw getD-take (stays x k (streamsOf file) l h (le-refl (streamsOf file))))
       by false e =
           let l : k ≤ x = ltb-false x k e in
-          unset k x l h ∙ sym (List·getD-eq-default (take k (after (streamsOf file))) (pos 0) (omega (arith, size)))
+          unset k x l h ∙ sym (List·getD-eq-default (take k (soFar (streamsOf file))) (pos 0) (omega (arith, size)))
 
   pub holds-end : (present : List ℤ) → length present ≡ 64 → Holds present (workedCount file) → present ≡ filled 64 (pos 0) (take (workedCount file) (instantOf file inputs first past))
   holds-end present e holds =
       rw instant-is
-      (is-filled 64 (pos 0) (take (workedCount file) (after (streamsOf file))) present e
-      (omega (arith, length-take-le (workedCount file) (after (streamsOf file)) (omega (arith, after-length (streamsOf file), counted file .0)), counted file .1))
+      (is-filled 64 (pos 0) (take (workedCount file) (soFar (streamsOf file))) present e
+      (omega (arith, length-take-le (workedCount file) (soFar (streamsOf file)) (omega (arith, after-length (streamsOf file), counted file .0)), counted file .1))
       (λ x. holds x ∙ first-values (workedCount file) (counted file .0) x))
 
   -- ---- one stream more
@@ -144,7 +144,7 @@ module _ (file : List ℕ) (inputs : List ℤ) (first : Bool) (past : List ℤ) 
     made = checkedOf (valueFrom i present)
 
     module _ (holds : Holds present i) where
-      made-is : valueFrom i present ≡ valueFrom i (after i)
+      made-is : valueFrom i present ≡ valueFrom i (soFar i)
       made-is = ap (worked (nodeOf file) inputs first (valuesIn past) i) (fun-ext holds)
 
       -- whether it is there, the definition's test of stream i
@@ -154,22 +154,22 @@ module _ (file : List ℕ) (inputs : List ℤ) (first : Bool) (past : List ℤ) 
       made-holds : isValue made ≡ true → i < length present → Holds (set present i (numberIn made)) (i + 1)
       made-holds e room x = rw (add-one i, after-more i l) (go (ℕ-discrete x i))
         where
-          go : Dec (x ≡ i) → getD (set present i (numberIn made)) x (pos 0) ≡ getD (set (after i) i (valueFrom i (after i))) x (pos 0)
+          go : Dec (x ≡ i) → getD (set present i (numberIn made)) x (pos 0) ≡ getD (set (soFar i) i (valueFrom i (soFar i))) x (pos 0)
           go (yes p) =
               rw p
               (getD-set-same present i _ (pos 0) room
               ∙ value-number (valueFrom i present) e
               ∙ made-is
-              ∙ sym (getD-set-same (after i) i _ (pos 0) (omega (arith, after-length i))))
-          go (no n) = getD-set-other present i x _ (pos 0) n ∙ holds x ∙ sym (getD-set-other (after i) i x _ (pos 0) n)
+              ∙ sym (getD-set-same (soFar i) i _ (pos 0) (omega (arith, after-length i))))
+          go (no n) = getD-set-other present i x _ (pos 0) n ∙ holds x ∙ sym (getD-set-other (soFar i) i x _ (pos 0) n)
 
     -- where streams before may be outside, what was found stays
-    pub turn-found : (found : Found) → found ≡ lowest (valueInside (instantOf file inputs first past)) i → (found ≡ Nothing → Holds present i) → orAt found (isValue made) i ≡ lowest (valueInside (instantOf file inputs first past)) (i + 1)
+    pub turn-found : (found : Found) → found ≡ lowest (valueInside (instantOf file inputs first past)) i → (found ≡ Nothing → Holds present i) → orElse found (isValue made) i ≡ lowest (valueInside (instantOf file inputs first past)) (i + 1)
     unfolding lowest
     turn-found (At k) e holds = rw (add-one i, ← e)
     turn-found Nothing e holds = rw (add-one i, ← e, made-inside (holds refl))
 
-    pub turn-holds : (found : Found) → (found ≡ Nothing → Holds present i) → i < length present → orAt found (isValue made) i ≡ Nothing → Holds (set present i (numberIn made)) (i + 1)
+    pub turn-holds : (found : Found) → (found ≡ Nothing → Holds present i) → i < length present → orElse found (isValue made) i ≡ Nothing → Holds (set present i (numberIn made)) (i + 1)
     turn-holds (At k) holds room e = at-nothing e
     turn-holds Nothing holds room e = made-holds (holds refl) (nothing-ok (isValue made) i e) room
 

@@ -7,7 +7,7 @@ use lib.ListN.{length, replicate}
 use Rattle.integers.specs.declared.Checked.{Checked}
 use Rattle.integers.specs.declared.Checked.the-variants.{Value, Outside}
 use Rattle.integers.specs.Range.{inside}
-use Rattle.node.specs.Equations.{kindAt}
+use Rattle.node.specs.Equations.{typeAt}
 use Rattle.node.specs.Inputs.{isInput}
 use Rattle.node.specs.Layout.{streamsOf, recordsOf}
 use Rattle.streams.specs.Evaluation.{upTo, instant}
@@ -17,7 +17,7 @@ use Rattle.streams.specs.Values.{valuesIn}
 
 -- 33: "bool input not 0 or 1", of record i
 unfoldable pub inputFits : (file : List ℕ) → (inputs : List ℤ) → (i : ℕ) → Bool
-inputFits file inputs i = not (isInput file i) || fitsTest (kindAt file i) (given (nodeOf file) inputs i)
+inputFits file inputs i = not (isInput file i) || fitsTest (typeAt file i) (given (nodeOf file) inputs i)
 
 -- "All n streams are worked out, untaken branches too", over whole numbers
 unfoldable pub instantOf : (file : List ℕ) → (inputs : List ℤ) → (first : Bool) → (past : List ℤ) → List ℤ

@@ -28,5 +28,5 @@ abbrev pub row : Node → (inputs : List ℤ) → (first : Bool) → (past : Val
 row node inputs first past s present = meaning (node .equations s) (given node inputs s) first past present
 
 pub record Solution (node : Node) (inputs : Inputs) (values : Streams) : Type 0 where
-  pub fits : (t s : ℕ) → s < node .streams → Fits (node .kinds s) (values t s)
+  pub fits : (t s : ℕ) → s < node .streams → Fits (node .types s) (values t s)
   pub holds : (t s : ℕ) → s < node .streams → values t s ≡ row node (inputs t) (isFirst t) (before values t) s (values t)

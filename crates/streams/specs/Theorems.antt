@@ -4,8 +4,8 @@ use mathlib.Core.Logic.{_⊎_}
 use Prim.Native.Nat.{ℕ, _<_, _≤_}
 use mathlib.Core.List.{List}
 use lib.IntN.{pos}
-use Rattle.node.specs.declared.equation.Kind.the-variants.{Bool as BoolKind}
-use Rattle.node.specs.Equations.{kindAt}
+use Rattle.node.specs.declared.equation.StreamType.the-variants.{Bool as BoolType}
+use Rattle.node.specs.Equations.{typeAt}
 use Rattle.node.specs.Layout.{streamsOf}
 use Rattle.streams.specs.Evaluation.{upTo, instants}
 use Rattle.streams.specs.Nodes.{nodeOf}
@@ -17,7 +17,7 @@ use Rattle.streams.specs.Values.{valuesIn}
 pub record OneSolution (s : List ℕ) : Type 0 where
   pub exists : (inputs : Inputs) → TypedInputs (nodeOf s) inputs → (values : Streams) × Solution (nodeOf s) inputs values
   pub same : (inputs : Inputs) (v w : Streams) → Solution (nodeOf s) inputs v → Solution (nodeOf s) inputs w → (t i : ℕ) → i < streamsOf s → v t i ≡ w t i
-  pub bools : (inputs : Inputs) (v : Streams) → Solution (nodeOf s) inputs v → (t i : ℕ) → i < streamsOf s → kindAt s i ≡ BoolKind → (v t i ≡ pos 0) ⊎ (v t i ≡ pos 1)
+  pub bools : (inputs : Inputs) (v : Streams) → Solution (nodeOf s) inputs v → (t i : ℕ) → i < streamsOf s → typeAt s i ≡ BoolType → (v t i ≡ pos 0) ⊎ (v t i ≡ pos 1)
 
 -- inputs that agree at instants 0 to t have solutions that agree at instants 0 to t
 abbrev pub DependsOnlyOnPast : List ℕ → Type 0

@@ -6,20 +6,20 @@ use mathlib.Core.List.{List}
 use lib.IntN.{ℤ, pos}
 use lib.ListN.{length, getD}
 use lib.Signed.{leZ, _≤ℤ_}
-use Rattle.node.specs.declared.equation.Kind.{Kind}
-use Rattle.node.specs.declared.equation.Kind.the-variants.{Bool as BoolKind, Int as IntKind}
+use Rattle.node.specs.declared.equation.StreamType.{StreamType}
+use Rattle.node.specs.declared.equation.StreamType.the-variants.{Bool as BoolType, Int as IntType}
 use Rattle.node.specs.declared.equation.Equation.the-variants.{Input}
 use Rattle.streams.specs.Nodes.{Node}
 
 -- "true or false for bool, any whole number for int; 1 stands for true, 0 for false"
-abbrev pub Fits : Kind → ℤ → Type 0
-Fits BoolKind z = (pos 0 ≤ℤ z) × (z ≤ℤ pos 1)
-Fits IntKind z = Unit {0}
+abbrev pub Fits : StreamType → ℤ → Type 0
+Fits BoolType z = (pos 0 ≤ℤ z) × (z ≤ℤ pos 1)
+Fits IntType z = Unit {0}
 
 -- the same as a test
-abbrev pub fitsTest : Kind → ℤ → Bool
-fitsTest BoolKind z = leZ (pos 0) z && leZ z (pos 1)
-fitsTest IntKind z = true
+abbrev pub fitsTest : StreamType → ℤ → Bool
+fitsTest BoolType z = leZ (pos 0) z && leZ z (pos 1)
+fitsTest IntType z = true
 
 -- "Its inputs are endless: at each instant 0, 1, 2 and on": one number an input, in record order
 abbrev pub Inputs : Type 0
@@ -32,7 +32,7 @@ given node inputs s = getD inputs (node .inputNumber s) (pos 0)
 -- one instant's inputs: "true or false for each bool input and any whole number for each int one"
 pub record TypedInstant (node : Node) (inputs : List ℤ) : Type 0 where
   pub count : length inputs ≡ node .inputs
-  pub fits : (s : ℕ) → s < node .streams → node .equations s ≡ Input → Fits (node .kinds s) (given node inputs s)
+  pub fits : (s : ℕ) → s < node .streams → node .equations s ≡ Input → Fits (node .types s) (given node inputs s)
 
 abbrev pub TypedInputs : Node → Inputs → Type 0
 TypedInputs node inputs = (t : ℕ) → TypedInstant node (inputs t)

@@ -1,38 +1,38 @@
 // The inputs of an instant against their types.
 use crate::operands::number_at;
 use answers::Found;
-use node::Kind;
+use node::StreamType;
 use node::is_input_among;
-use node::kind_among;
 use node::records_of;
+use node::type_among;
 use node::with_record;
 ghost use mathlib.Core.Path.{_≡_};
 ghost use mathlib.Core.Bool.{not, _||_};
 ghost use lib.IntN.{pos};
 ghost use lib.ListN.{getD};
 ghost use Rattle.answers.specs.Checks.{lowest};
-ghost use Rattle.node.specs.Equations.{kindAt};
+ghost use Rattle.node.specs.Equations.{typeAt};
 ghost use Rattle.node.specs.Inputs.{isInput};
 ghost use Rattle.node.specs.Layout.{recordsOf};
 ghost use Rattle.streams.specs.Instant.{inputFits};
 ghost use Rattle.streams.specs.Typing.{fitsTest};
 
 // x fits the type: of a bool it is 0 or 1.
-pub fn is_typed(kind: Kind, x: i64) -> bool
-    ensures { λ r. ⌜ r ≡ fitsTest kind x ⌝ }
+pub fn is_typed(ty: StreamType, x: i64) -> bool
+    ensures { λ r. ⌜ r ≡ fitsTest ty x ⌝ }
 {
-    match kind {
-        Kind::Bool => (0 <= x) & (x <= 1),
-        Kind::Int => true,
+    match ty {
+        StreamType::Bool => (0 <= x) & (x <= 1),
+        StreamType::Int => true,
     }
 }
 
 // Record i of a file of n is no input, or its input, the number j of them, fits its type.
 fn input_fits(file: &[u8], n: usize, inputs: &[i64], i: usize, j: usize) -> bool
     requires { ⌜ n ≡ recordsOf (now file) ⌝ }
-    ensures { λ r. ⌜ r ≡ (not (isInput (now (file .entry)) i) || fitsTest (kindAt (now (file .entry)) i) (getD (now (inputs .entry)) j (pos 0))) ⌝ }
+    ensures { λ r. ⌜ r ≡ (not (isInput (now (file .entry)) i) || fitsTest (typeAt (now (file .entry)) i) (getD (now (inputs .entry)) j (pos 0))) ⌝ }
 {
-    !is_input_among(file, n, i) | is_typed(kind_among(file, n, i), number_at(inputs, j))
+    !is_input_among(file, n, i) | is_typed(type_among(file, n, i), number_at(inputs, j))
 }
 
 // The lowest record whose input does not fit its type. The inputs below it are counted along the way.

@@ -12,7 +12,7 @@ ghost use lib.IntN.{pos};
 ghost use lib.ListN.{take};
 ghost use Rattle.integers.specs.Range.{checkedOf};
 ghost use Rattle.answers.specs.declared.Found.the-variants.{Nothing};
-ghost use Rattle.answers.specs.Checks.{lowest, orAt};
+ghost use Rattle.answers.specs.Checks.{lowest, orElse};
 ghost use Rattle.node.specs.Inputs.{inputsBelow};
 ghost use Rattle.node.specs.Layout.{recordsOf};
 ghost use Rattle.streams.specs.Evaluation.{worked};
@@ -47,8 +47,8 @@ fn number_of(value: Checked) -> i64
 }
 
 // The lowest found so far, with stream i: what was found before stays.
-fn or_at(found: Found, ok: bool, i: usize) -> Found
-    ensures { λ r. ⌜ r ≡ orAt found ok i ⌝ }
+fn or_else(found: Found, ok: bool, i: usize) -> Found
+    ensures { λ r. ⌜ r ≡ orElse found ok i ⌝ }
 {
     if ok {
         return found;
@@ -103,7 +103,7 @@ pub fn worked_out(file: &[u8], inputs: &[i64], first: bool, past: &[i64]) -> Wor
     let mut i = 0;
     while i < count {
         let value = value_of(file, n, inputs, first, past, &values, i, j);
-        outside = or_at(outside, is_inside(value), i);
+        outside = or_else(outside, is_inside(value), i);
         values[i] = number_of(value);
         j = with_record(file, n, i, j);
         i += 1;

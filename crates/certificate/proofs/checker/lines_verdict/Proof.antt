@@ -21,11 +21,11 @@ use Rattle.certificate.proofs.checker.lines_verdict.Statement.{statemen
 use Rattle.certificate.proofs.checker.lines_verdict.Tie as tie
 
 abbrev Inv-loop : tie.InvT-loop
-Inv-loop node cert sorts f lines sums₀ i₀ sums i =
+Inv-loop node cert types f lines sums₀ i₀ sums i =
     (i ≤ lines) × ((j : ℕ) → j < i → linePasses node cert j ≡ true) × (lines ≡ f .base + f .step) × (sums ≡ replicate 576 (pos 0))
 
 abbrev μ-loop : tie.MeasureT-loop
-μ-loop node cert sorts f lines sums₀ i₀ sums i = lines - i
+μ-loop node cert types f lines sums₀ i₀ sums i = lines - i
 
 add-lines : tie.Need-add-lines Inv-loop μ-loop
 add-lines c = search needs

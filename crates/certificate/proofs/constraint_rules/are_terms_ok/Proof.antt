@@ -9,15 +9,15 @@ use borrow.Author.Tests.{not-true, not-false}
 use Rattle.answers.specs.Checks.{every}
 use Rattle.answers.proofs.Every.{every-none, every-more, every-not}
 use Rattle.constraints.specs.Layout.{termAt}
-use Rattle.constraints.specs.Rules.{sortsOf, termOk}
+use Rattle.constraints.specs.Rules.{typesOf, termOk}
 use Rattle.certificate.proofs.constraint_rules.are_terms_ok.Statement.{statement}
 use Rattle.certificate.proofs.constraint_rules.are_terms_ok.Tie as tie
 
 abbrev Inv-loop : tie.InvT-loop
-Inv-loop file at sorts k count j₀ j = (j ≤ 8) × (every (termOk (sortsOf sorts) k count (termAt file at)) j ≡ true)
+Inv-loop file at types k count j₀ j = (j ≤ 8) × (every (termOk (typesOf types) k count (termAt file at)) j ≡ true)
 
 abbrev μ-loop : tie.MeasureT-loop
-μ-loop file at sorts k count j₀ j = 8 - j
+μ-loop file at types k count j₀ j = 8 - j
 
 loop-holds : tie.Need-loop-holds Inv-loop μ-loop
 loop-holds c = (search needs, every-none _)

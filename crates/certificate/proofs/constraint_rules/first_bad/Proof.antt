@@ -8,16 +8,16 @@ use borrow.Author.Count.{below-none, below-more}
 use borrow.Author.Needs.{needs}
 use borrow.Author.Tests.{not-true, not-false}
 use Rattle.answers.proofs.Lowest.{none, found}
-use Rattle.constraints.specs.Rules.{sortsOf, constraintPasses}
+use Rattle.constraints.specs.Rules.{typesOf, constraintPasses}
 use Rattle.certificate.proofs.constraint_rules.first_bad.Statement.{statement}
 use Rattle.certificate.proofs.constraint_rules.first_bad.Tie as tie
 
 abbrev Inv-loop : tie.InvT-loop
-Inv-loop file start m sorts k i₀ i =
-    (i ≤ m) × ((j : ℕ) → j < i → constraintPasses (sortsOf sorts) k file start j ≡ true)
+Inv-loop file start m types k i₀ i =
+    (i ≤ m) × ((j : ℕ) → j < i → constraintPasses (typesOf types) k file start j ≡ true)
 
 abbrev μ-loop : tie.MeasureT-loop
-μ-loop file start m sorts k i₀ i = m - i
+μ-loop file start m types k i₀ i = m - i
 
 loop-holds : tie.Need-loop-holds Inv-loop μ-loop
 loop-holds c = (search needs, below-none _)

@@ -7,11 +7,11 @@ use borrow.Author.Needs.{needs}
 use Rattle.certificate.proofs.constraint_rules.is_used_ok.Statement.{statement}
 use Rattle.certificate.proofs.constraint_rules.is_used_ok.Tie as tie
 
-cast-sort-at : tie.Need-cast-sort-at
-cast-sort-at c = search needs
+cast-type-at : tie.Need-cast-type-at
+cast-type-at c = search needs
 
-sort-at-requires : tie.Need-sort-at-requires
-sort-at-requires c κs = search needs
+type-at-requires : tie.Need-type-at-requires
+type-at-requires c κs = search needs
 
 between-requires : tie.Need-between-requires
 between-requires c κs = search needs
@@ -27,9 +27,9 @@ returns c =
       c .between2 .ensures,
       c .before .before .between .ensures,
       toZ-ofZ w64 _ (record { sfits = told .struct-told .given .1 .1 .1 .0 .1 }),
-      told .before .before .before .sort-at .ensures,
+      told .before .before .before .type-at .ensures,
     )
 
 pub is-used-ok-spec : {M : Type 1} → statement M
 is-used-ok-spec =
-    tie.close (tie.spec cast-sort-at sort-at-requires between-requires between-requires-2 returns)
+    tie.close (tie.spec cast-type-at type-at-requires between-requires between-requires-2 returns)

@@ -9,14 +9,14 @@ use borrow.Author.Tests.{ltb-true, not-true, not-false}
 use denote.Ref.{now}
 use lib.Dec.{ltb}
 use Rattle.answers.proofs.Tests.{both-true}
-use Rattle.node.specs.Equations.{kindAt, equationAt}
-use Rattle.node.proofs.Records.{kind-among, equation-among}
+use Rattle.node.specs.Equations.{typeAt, equationAt}
+use Rattle.node.proofs.Records.{type-among, equation-among}
 use Rattle.constraints.specs.declared.layout.LineHead.{LineHead}
 use Rattle.constraints.specs.Linear.{variable}
 use Rattle.rules.specs.declared.pattern.Named.{Named}
-use Rattle.rules.specs.declared.pattern.Place.{Place}
+use Rattle.rules.specs.declared.pattern.Position.{Position}
 use Rattle.rules.specs.Clauses.{clauses, numbered}
-use Rattle.rules.specs.Lines.{placeOf, literalsAre, equationIn}
+use Rattle.rules.specs.Lines.{positionOf, literalsAre, equationIn}
 use Rattle.clauses.specs.Limits.{SmallClause}
 use Rattle.clauses.proofs.Limits.{small-clauses, small-named}
 use Rattle.certificate.specs.Ready.{lineWith}
@@ -39,16 +39,16 @@ q-below : (c : tie.Else1) → let a = c .before .before .before .before .before 
 q-below c = ltb-true _ _ (passed c .1)
 
 -- the clause that a line's head names
-abbrev named : List ℕ → Place → LineHead → Named
+abbrev named : List ℕ → Position → LineHead → Named
 named node opening h =
-    numbered (clauses (kindAt node (h .p)) (equationAt node (h .p)) (placeOf opening (h .q)) (variable (h .q)) (variable (h .q - 1)) (variable (h .q) (h .p))) (h .r)
+    numbered (clauses (typeAt node (h .p)) (equationAt node (h .p)) (positionOf opening (h .q)) (variable (h .q)) (variable (h .q - 1)) (variable (h .q) (h .p))) (h .r)
 
 named-is : (c : tie.After-clause-of) → let a = c .before .before .before .before .before .before .before .before .before .args in named (now (a .node)) (a .opening) (a .h) ≡ c .clause-of .result
 named-is c =
     let counted = c .before .before .before .before .before .before .before .before .before .pre .1 .2 in
     sym
     (c .clause-of .ensures
-    ∙ rw (c .before .equation-among .ensures ∙ equation-among _ _ counted _, c .before .before .kind-among .ensures ∙ kind-among _ _ counted _, c .before .before .before .place-of .ensures))
+    ∙ rw (c .before .equation-among .ensures ∙ equation-among _ _ counted _, c .before .before .type-among .ensures ∙ type-among _ _ counted _, c .before .before .before .position-of .ensures))
 
 small : (c : tie.After-c) → SmallClause (c .c .given .0 .0)
 small c =
@@ -56,10 +56,10 @@ small c =
     let h = s .args .h in
     let node = now (s .args .node) in
     small-named
-    (clauses (kindAt node (h .p)) (equationAt node (h .p)) (placeOf (s .args .opening) (h .q)) (variable (h .q)) (variable (h .q - 1)) (variable (h .q) (h .p)))
+    (clauses (typeAt node (h .p)) (equationAt node (h .p)) (positionOf (s .args .opening) (h .q)) (variable (h .q)) (variable (h .q - 1)) (variable (h .q) (h .p)))
     (h .r) (c .c .given .0 .0)
-    (small-clauses (variable (h .q)) (variable (h .q - 1)) (variable (h .q) (h .p)) (kindAt node (h .p)) (equationAt node (h .p))
-    (placeOf (s .args .opening) (h .q)) (s .pre .1 .0 (h .p) (p-below (c .before .before .before .before .before .before))))
+    (small-clauses (variable (h .q)) (variable (h .q - 1)) (variable (h .q) (h .p)) (typeAt node (h .p)) (equationAt node (h .p))
+    (positionOf (s .args .opening) (h .q)) (s .pre .1 .0 (h .p) (p-below (c .before .before .before .before .before .before))))
     (named-is (c .before .before) ∙ c .c .given .1)
 
 cast-p : tie.Need-cast-p
@@ -72,11 +72,11 @@ returns : tie.Need-returns
 unfolding equationIn
 returns c = rw (not-true (inside (c .before .before .before .before .before)) (c .if1 .taken))
 
-place-of-requires : tie.Need-place-of-requires
-place-of-requires c κs = search needs
+position-of-requires : tie.Need-position-of-requires
+position-of-requires c κs = search needs
 
-kind-among-requires : tie.Need-kind-among-requires
-kind-among-requires c κs = search needs
+type-among-requires : tie.Need-type-among-requires
+type-among-requires c κs = search needs
 
 equation-among-requires : tie.Need-equation-among-requires
 equation-among-requires c κs = search needs
@@ -124,8 +124,8 @@ equation-ok-spec =
     cast-p
     cast-q
     returns
-    place-of-requires
-    kind-among-requires
+    position-of-requires
+    type-among-requires
     equation-among-requires
     cast-clause-of
     clause-of-requires

@@ -27,7 +27,7 @@ shape-ok-requires c κs = search needs
 shape-told : (c : tie.After-shape-ok) → let a = c .before .before .before .before .before .before .args in shapePasses (now (a .node)) (now (a .cert)) (a .i) ≡ c .shape-ok .result
 shape-told c =
     let s = c .before .before .before .before .before .before in
-    sym (c .shape-ok .ensures ∙ shape-is _ _ _ (s .pre .0 .0) _ _ (c .before .before .block-at .ensures) _ (c .before .line-head .ensures) (now (s .args .sorts)) (s .pre .0 .1))
+    sym (c .shape-ok .ensures ∙ shape-is _ _ _ (s .pre .0 .0) _ _ (c .before .before .block-at .ensures) _ (c .before .line-head .ensures) (now (s .args .types)) (s .pre .0 .1))
 
 shape-true : (c : tie.Else1) → let a = c .before .before .before .before .before .before .before .args in shapePasses (now (a .node)) (now (a .cert)) (a .i) ≡ true
 shape-true c = shape-told (c .before) ∙ not-false _ (c .if1 .left)

@@ -5,26 +5,26 @@ use denote.Ref.{now}
 use Prim.Native.Nat.{ℕ}
 use Rattle.answers.specs.Answer.{accepted, refused}
 use Rattle.constraints.specs.Layout.{trailerOf}
-use Rattle.constraints.specs.Rules.{sortsOf}
-use Rattle.rules.specs.Verdict.{sortsOfNode, fileVerdict}
+use Rattle.constraints.specs.Rules.{typesOf}
+use Rattle.rules.specs.Verdict.{typesOfNode, fileVerdict}
 use Rattle.certificate.specs.declared.reading.Opened.the-variants.{Passed}
 use Rattle.certificate.specs.Checking.{openingOf}
-use Rattle.certificate.proofs.Openings.{counted-streams, node-sorts, unopened, file-accepted, frame-room, checking}
+use Rattle.certificate.proofs.Openings.{counted-streams, node-types, unopened, file-accepted, frame-room, checking}
 use borrow.Author.Needs.{needs}
 use Rattle.certificate.proofs.reading.certificate_verdict.Statement.{statement}
 use Rattle.certificate.proofs.reading.certificate_verdict.Tie as tie
 
-sorts-of-requires : tie.Need-sorts-of-requires
-sorts-of-requires c κs = counted-streams _ _ _ (c .before .before .pre)
+types-of-requires : tie.Need-types-of-requires
+types-of-requires c κs = counted-streams _ _ _ (c .before .before .pre)
 
 slice-aggregate-opening : tie.Need-slice-aggregate-opening
 slice-aggregate-opening c = search needs
 
-sorted : (c : tie.After-sorts-of) → (x : ℕ) → sortsOf (c .sorts-of .result) x ≡ sortsOfNode (now (c .before .before .before .args .node)) x
-sorted c = node-sorts _ (c .sorts-of .result) _ _ (c .before .before .before .pre) (c .sorts-of .ensures .1)
+are-types : (c : tie.After-types-of) → (x : ℕ) → typesOf (c .types-of .result) x ≡ typesOfNode (now (c .before .before .before .args .node)) x
+are-types c = node-types _ (c .types-of .result) _ _ (c .before .before .before .pre) (c .types-of .ensures .1)
 
 opening-requires : tie.Need-opening-requires
-opening-requires c κs = sorted (c .before)
+opening-requires c κs = are-types (c .before)
 
 enum-known-t : tie.Need-enum-known-t
 enum-known-t c = search needs
@@ -45,7 +45,7 @@ lines-verdict-requires : tie.Need-lines-verdict-requires
 lines-verdict-requires c κs =
     let told = c .before .before .before in
     let read = told .before .before .before .before in
-    (checking _ _ _ _ _ (read .before .before .before .pre) (passed told) _ (c .frame-of .ensures), sorted read)
+    (checking _ _ _ _ _ (read .before .before .before .pre) (passed told) _ (c .frame-of .ensures), are-types read)
 
 file-is : (c : tie.After-t) → let a = c .before .before .before .before .before .before .before .args in fileVerdict (now (a .node)) (now (a .cert)) ≡ accepted tt
 file-is c = file-accepted _ _ _ _ _ (c .before .before .before .before .before .before .before .pre) (passed c)
@@ -66,7 +66,7 @@ pub certificate-verdict-spec : {M : Type 1} → statement M
 certificate-verdict-spec =
     tie.close
     (tie.spec
-    sorts-of-requires
+    types-of-requires
     slice-aggregate-opening
     opening-requires
     enum-known-t

@@ -14,7 +14,7 @@ use Rattle.certificate.proofs.reading.constraints_opening.Tie as tie
 found-is : (c : tie.After-first-bad) → let a = c .before .before .before .before .before .before .args in lowest (constraintPasses (now (a .node)) (now (a .cert))) (trailerOf (now (a .cert)) .constraints) ≡ c .first-bad .result
 found-is c =
     let s = c .before .before .before .before .before .before in
-    constraints-searched _ _ (s .pre .0) (now (s .args .node)) (now (s .args .sorts)) (s .pre .1) _ (c .before .before .start-of .ensures) ∙ sym (c .first-bad .ensures)
+    constraints-searched _ _ (s .pre .0) (now (s .args .node)) (now (s .args .types)) (s .pre .1) _ (c .before .before .start-of .ensures) ∙ sym (c .first-bad .ensures)
 
 start-of-requires : tie.Need-start-of-requires
 start-of-requires c κs = start-room _ _ (c .before .before .before .pre .0)

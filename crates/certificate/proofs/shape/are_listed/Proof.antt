@@ -9,17 +9,17 @@ use borrow.Author.Tests.{not-true, not-false}
 use Rattle.answers.specs.Checks.{every}
 use Rattle.answers.proofs.Every.{every-none, every-more, every-not}
 use Rattle.constraints.specs.Layout.{literalAt, multiplierAt}
-use Rattle.constraints.specs.Rules.{sortsOf}
+use Rattle.constraints.specs.Rules.{typesOf}
 use Rattle.certificate.specs.Slots.{listedOk}
 use Rattle.certificate.proofs.shape.are_listed.Statement.{statement}
 use Rattle.certificate.proofs.shape.are_listed.Tie as tie
 
 abbrev Inv-loop : tie.InvT-loop
-Inv-loop file at h sorts k m count j₀ j =
-    (j ≤ count) × (every (listedOk (sortsOf sorts) k m (h .kind) (literalAt file at) (multiplierAt file at)) j ≡ true)
+Inv-loop file at h types k m count j₀ j =
+    (j ≤ count) × (every (listedOk (typesOf types) k m (h .kind) (literalAt file at) (multiplierAt file at)) j ≡ true)
 
 abbrev μ-loop : tie.MeasureT-loop
-μ-loop file at h sorts k m count j₀ j = count - j
+μ-loop file at h types k m count j₀ j = count - j
 
 cast-count : tie.Need-cast-count Inv-loop μ-loop
 cast-count c = search needs

@@ -3,7 +3,7 @@
 use mathlib.Core.Path.{sym, _∙_}
 use borrow.Author.Tests.{not-true, not-false}
 use Rattle.constraints.specs.Layout.{literalAt, multiplierAt}
-use Rattle.constraints.specs.Rules.{sortsOf}
+use Rattle.constraints.specs.Rules.{typesOf}
 use Rattle.certificate.proofs.SlotHalves.{slots-missed, slots-rest}
 use borrow.Author.Needs.{needs}
 use denote.Ref.{now}
@@ -17,7 +17,7 @@ returns : tie.Need-returns
 returns c =
     let s = c .before .before .before .before in
     let file = now (s .args .file) in
-    slots-missed (sortsOf (now (s .args .sorts))) (s .args .k) (s .args .m) (s .args .h .kind) (s .args .h .count)
+    slots-missed (typesOf (now (s .args .types))) (s .args .k) (s .args .m) (s .args .h .kind) (s .args .h .count)
     (literalAt file (s .args .at))
     (multiplierAt file (s .args .at))
     (s .pre .1)
@@ -35,7 +35,7 @@ returns-2 c =
     let s = listed .before .before .before .before in
     let file = now (s .args .file) in
     c .are-unused .ensures
-    ∙ slots-rest (sortsOf (now (s .args .sorts))) (s .args .k) (s .args .m) (s .args .h .kind) (s .args .h .count)
+    ∙ slots-rest (typesOf (now (s .args .types))) (s .args .k) (s .args .m) (s .args .h .kind) (s .args .h .count)
     (literalAt file (s .args .at))
     (multiplierAt file (s .args .at))
     (s .pre .1)

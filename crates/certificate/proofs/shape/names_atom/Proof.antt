@@ -10,12 +10,12 @@ returns : tie.Need-returns
 unfolding namesAtom
 returns c = rw (le-leb _ _ (c .if1 .taken))
 
-sort-at-requires : tie.Need-sort-at-requires
-sort-at-requires c κs = search needs
+type-at-requires : tie.Need-type-at-requires
+type-at-requires c κs = search needs
 
 returns-2 : tie.Need-returns-2
 unfolding namesAtom
-returns-2 c = rw (lt-leb _ _ (c .before .if1 .left), c .sort-at .ensures)
+returns-2 c = rw (lt-leb _ _ (c .before .if1 .left), c .type-at .ensures)
 
 pub names-atom-spec : {M : Type 1} → statement M
-names-atom-spec = tie.close (tie.spec returns sort-at-requires returns-2)
+names-atom-spec = tie.close (tie.spec returns type-at-requires returns-2)

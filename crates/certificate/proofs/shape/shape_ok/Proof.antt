@@ -6,7 +6,7 @@ use borrow.Author.Tests.{not-true, not-false}
 use denote.Ref.{now}
 use lib.Dec.{leb}
 use Rattle.constraints.specs.Layout.{Line}
-use Rattle.constraints.specs.Rules.{sortsOf}
+use Rattle.constraints.specs.Rules.{typesOf}
 use Rattle.rules.specs.Lines.{numbersOk}
 use Rattle.certificate.specs.Ready.{lineWith}
 use Rattle.certificate.proofs.SlotHalves.{shape-many, shape-missed, shape-rest}
@@ -26,7 +26,7 @@ are-slots-requires c κs = search needs
 returns : tie.Need-returns
 returns c =
     let s = c .before .before .before .before in
-    shape-many (sortsOf (now (s .args .sorts))) (s .args .k) (s .args .m) (line s) (c .if1 .taken)
+    shape-many (typesOf (now (s .args .types))) (s .args .k) (s .args .m) (line s) (c .if1 .taken)
 
 -- the test of the kind and its numbers
 numbers-are : (c : tie.After-are-numbers) → let h = c .before .before .before .before .before .before .before .args .h in (leb 1 (h .kind) && leb (h .kind) 4 && c .are-numbers .result) ≡ (leb 1 (h .kind) && leb (h .kind) 4 && numbersOk h)
@@ -36,7 +36,7 @@ returns-2 : tie.Need-returns-2
 returns-2 c =
     let few = c .before .before .before .before in
     let s = few .before .before .before .before in
-    shape-missed (sortsOf (now (s .args .sorts))) (s .args .k) (s .args .m) (line s) (few .if1 .left)
+    shape-missed (typesOf (now (s .args .types))) (s .args .k) (s .args .m) (line s) (few .if1 .left)
     (sym (numbers-are (c .before)) ∙ not-true _ (c .if2 .taken))
 
 returns-3 : tie.Need-returns-3
@@ -45,7 +45,7 @@ returns-3 c =
     let few = numbered .before .before .before .before in
     let s = few .before .before .before .before in
     c .are-slots .ensures
-    ∙ shape-rest (sortsOf (now (s .args .sorts))) (s .args .k) (s .args .m) (line s) (few .if1 .left)
+    ∙ shape-rest (typesOf (now (s .args .types))) (s .args .k) (s .args .m) (line s) (few .if1 .left)
     (sym (numbers-are (numbered .before)) ∙ not-false _ (numbered .if2 .left))
 
 pub shape-ok-spec : {M : Type 1} → statement M

@@ -7,7 +7,7 @@ use mir.Syntax.{w32}
 use mir.Val.{SFits}
 use mir.Facts.{toZ-ofZ}
 use borrow.Author.Needs.{needs}
-use Rattle.node.specs.declared.equation.Kind.the-variants.{Bool as BoolKind, Int as IntKind}
+use Rattle.node.specs.declared.equation.StreamType.the-variants.{Bool as BoolType, Int as IntType}
 use Rattle.node.specs.declared.equation.Equation.the-variants.{Constant, Not, And, Or, Same, Multiple, AtMost, Equal, If}
 use Rattle.constraints.specs.Linear.{variable}
 use Rattle.rules.specs.Clauses.{equalTo, firstThen}
@@ -181,36 +181,36 @@ returns-2 c =
     rw (c .before .before .e .given .1)
     (c .constant .ensures
     ∙ same-number (s .r)
-    (same-constant (λ v z. over (s .kind) (Constant z) v) (c .before .before .before .before .var .ensures) (toZ-ofZ f)
-    ∙ constant-anywhere (s .kind) k (s .place) (variable (s .offset)) (variable (s .offset - 1)) (variable (s .offset) (s .s))))
+    (same-constant (λ v z. over (s .ty) (Constant z) v) (c .before .before .before .before .var .ensures) (toZ-ofZ f)
+    ∙ constant-anywhere (s .ty) k (s .place) (variable (s .offset)) (variable (s .offset - 1)) (variable (s .offset) (s .s))))
 
 returns-3 : tie.Need-returns-3
 returns-3 c =
     rw (c .before .before .before .e2 .given .1)
     (c .not .ensures
     ∙ same-number (c .before .before .before .before .before .before .args .r)
-    (same2 (λ s a. over BoolKind (Not a) s) (c .before .before .before .before .before .var .ensures) (c .before .var2 .ensures)))
+    (same2 (λ s a. over BoolType (Not a) s) (c .before .before .before .before .before .var .ensures) (c .before .var2 .ensures)))
 
 returns-4 : tie.Need-returns-4
 returns-4 c =
     rw (c .before .before .before .before .e3 .given .1)
     (c .and .ensures
     ∙ same-number (c .before .before .before .before .before .before .before .args .r)
-    (same3 (λ s a b. over BoolKind (And a b) s) (c .before .before .before .before .before .before .var .ensures) (c .before .before .var3 .ensures) (c .before .var4 .ensures)))
+    (same3 (λ s a b. over BoolType (And a b) s) (c .before .before .before .before .before .before .var .ensures) (c .before .before .var3 .ensures) (c .before .var4 .ensures)))
 
 returns-5 : tie.Need-returns-5
 returns-5 c =
     rw (c .before .before .before .before .e4 .given .1)
     (c .or .ensures
     ∙ same-number (c .before .before .before .before .before .before .before .args .r)
-    (same3 (λ s a b. over BoolKind (Or a b) s) (c .before .before .before .before .before .before .var .ensures) (c .before .before .var5 .ensures) (c .before .var6 .ensures)))
+    (same3 (λ s a b. over BoolType (Or a b) s) (c .before .before .before .before .before .before .var .ensures) (c .before .before .var5 .ensures) (c .before .var6 .ensures)))
 
 returns-6 : tie.Need-returns-6
 returns-6 c =
     rw (c .before .before .before .before .e5 .given .1)
     (c .same .ensures
     ∙ same-number (c .before .before .before .before .before .before .before .args .r)
-    (same3 (λ s a b. over BoolKind (Same a b) s) (c .before .before .before .before .before .before .var .ensures) (c .before .before .var7 .ensures) (c .before .var8 .ensures)))
+    (same3 (λ s a b. over BoolType (Same a b) s) (c .before .before .before .before .before .before .var .ensures) (c .before .before .var7 .ensures) (c .before .var8 .ensures)))
 
 returns-7 : tie.Need-returns-7
 returns-7 c =
@@ -234,29 +234,29 @@ returns-9 c =
     rw (c .before .before .before .e8 .given .1)
     (c .multiple .ensures
     ∙ same-number (s .args .r)
-    (same-constant (λ v z. over IntKind (Multiple z (c .before .var13 .result)) v) (c .before .before .before .before .before .var .ensures) (toZ-ofZ f)
-    ∙ same2 (λ v a. over IntKind (Multiple k a) v) refl (c .before .var13 .ensures)))
+    (same-constant (λ v z. over IntType (Multiple z (c .before .var13 .result)) v) (c .before .before .before .before .before .var .ensures) (toZ-ofZ f)
+    ∙ same2 (λ v a. over IntType (Multiple k a) v) refl (c .before .var13 .ensures)))
 
 returns-10 : tie.Need-returns-10
 returns-10 c =
     rw (c .before .before .before .before .e9 .given .1)
     (c .at-most .ensures
     ∙ same-number (c .before .before .before .before .before .before .before .args .r)
-    (same3 (λ s a b. over BoolKind (AtMost a b) s) (c .before .before .before .before .before .before .var .ensures) (c .before .before .var14 .ensures) (c .before .var15 .ensures)))
+    (same3 (λ s a b. over BoolType (AtMost a b) s) (c .before .before .before .before .before .before .var .ensures) (c .before .before .var14 .ensures) (c .before .var15 .ensures)))
 
 returns-11 : tie.Need-returns-11
 returns-11 c =
     rw (c .before .before .before .before .e10 .given .1)
     (c .equal .ensures
     ∙ same-number (c .before .before .before .before .before .before .before .args .r)
-    (same3 (λ s a b. over BoolKind (Equal a b) s) (c .before .before .before .before .before .before .var .ensures) (c .before .before .var16 .ensures) (c .before .var17 .ensures)))
+    (same3 (λ s a b. over BoolType (Equal a b) s) (c .before .before .before .before .before .before .var .ensures) (c .before .before .var16 .ensures) (c .before .var17 .ensures)))
 
 returns-12 : tie.Need-returns-12
 returns-12 c =
     rw (c .before .before .before .before .before .e11 .given .1)
     (c .if-then-else .ensures
     ∙ same-number (c .before .before .before .before .before .before .before .before .args .r)
-    (same4 (λ s a b d. over (c .before .before .before .before .before .before .before .before .args .kind) (If d a b) s) (c .before .before .before .before .before .before .before .var .ensures) (c .before .before .before .var18 .ensures) (c .before .before .var19 .ensures) (c .before .var20 .ensures)))
+    (same4 (λ s a b d. over (c .before .before .before .before .before .before .before .before .args .ty) (If d a b) s) (c .before .before .before .before .before .before .before .var .ensures) (c .before .before .before .var18 .ensures) (c .before .before .var19 .ensures) (c .before .var20 .ensures)))
 
 returns-13 : tie.Need-returns-13
 returns-13 c =
@@ -264,7 +264,7 @@ returns-13 c =
     rw (c .before .before .before .before .e12 .given .1)
     (c .later .ensures
     ∙ same-number (s .r)
-    (same3 (firstThen (s .kind) (s .place)) (c .before .before .before .before .before .before .var .ensures) (c .before .before .var21 .ensures) (c .before .var22 .ensures)))
+    (same3 (firstThen (s .ty) (s .place)) (c .before .before .before .before .before .before .var .ensures) (c .before .before .var21 .ensures) (c .before .var22 .ensures)))
 
 returns-14 : tie.Need-returns-14
 returns-14 c =
@@ -272,7 +272,7 @@ returns-14 c =
     rw (c .before .before .before .before .e13 .given .1)
     (c .later2 .ensures
     ∙ same-number (s .r)
-    (same3 (firstThen (s .kind) (s .place)) (c .before .before .before .before .before .before .var .ensures) (c .before .before .var23 .ensures) (c .before .back .ensures)))
+    (same3 (firstThen (s .ty) (s .place)) (c .before .before .before .before .before .before .var .ensures) (c .before .before .var23 .ensures) (c .before .back .ensures)))
 
 pub clause-of-spec : {M : Type 1} → statement M
 clause-of-spec =

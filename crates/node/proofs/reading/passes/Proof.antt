@@ -3,7 +3,7 @@
 use mathlib.Core.Path.{_≡_, _∙_, fun-ext}
 use denote.Ref.{now}
 use Rattle.node.specs.Layout.{recordOf}
-use Rattle.node.proofs.Records.{record-among, type-among}
+use Rattle.node.proofs.Records.{record-among, type-byte-among}
 use borrow.Author.Needs.{needs}
 use Rattle.node.proofs.reading.passes.Statement.{statement}
 use Rattle.node.proofs.reading.passes.Tie as tie
@@ -42,7 +42,7 @@ returns-2 c = rw (c .before .enum-told2 .given .1, ← (record-is (c .before .be
 returns-3 : tie.Need-returns-3
 returns-3 c =
     let s = c .before .before .before .before .before in
-    let types-are = fun-ext (type-among (now (s .args .file)) (s .args .n) (s .pre)) in
+    let types-are = fun-ext (type-byte-among (now (s .args .file)) (s .args .n) (s .pre)) in
     rw (c .before .enum-told3 .given .1, ← (record-is (c .before .before .before)), ← types-are) (c .types-ok .ensures)
 
 pub passes-spec : {M : Type 1} → statement M

@@ -7,10 +7,10 @@ use borrow.Author.Tests.{not-true, not-false}
 use Rattle.answers.specs.declared.Found.the-variants.{Nothing}
 use Rattle.answers.specs.Checks.{lowest}
 use Rattle.node.specs.declared.reading.RecordRule.the-variants.{Shape, Operands, Types}
-use Rattle.node.specs.Layout.{typeOf}
+use Rattle.node.specs.Layout.{typeByteOf}
 use Rattle.node.specs.Rules.{propertyOk}
 use Rattle.node.specs.Verdict.{passesOf, recordsVerdict}
-use Rattle.node.proofs.Records.{type-among}
+use Rattle.node.proofs.Records.{type-byte-among}
 use borrow.Author.Needs.{needs}
 use Rattle.node.proofs.reading.records_verdict.Statement.{statement}
 use Rattle.node.proofs.reading.records_verdict.Tie as tie
@@ -24,10 +24,10 @@ operands-pass c = sym (c .before .before .first-bad2 .ensures) ∙ c .enum-told2
 types-pass : (c : tie.After-enum-told3) → let a = c .before .before .before .before .before .before .before .before .before .before .args in lowest (passesOf (now (a .file)) (a .n) Types) (a .n) ≡ Nothing
 types-pass c = sym (c .before .before .first-bad3 .ensures) ∙ c .enum-told3 .given .1
 
-property-is : (c : tie.After-property-ok) → let a = c .before .before .before .before .before .before .before .before .before .before .before .before .args in propertyOk (typeOf (now (a .file)) (a .property)) ≡ c .property-ok .result
+property-is : (c : tie.After-property-ok) → let a = c .before .before .before .before .before .before .before .before .before .before .before .before .args in propertyOk (typeByteOf (now (a .file)) (a .property)) ≡ c .property-ok .result
 property-is c =
     let s = c .before .before .before .before .before .before .before .before .before .before .before .before in
-    ap propertyOk (sym (c .before .type-among .ensures ∙ type-among _ _ (s .pre) _)) ∙ sym (c .property-ok .ensures)
+    ap propertyOk (sym (c .before .type-byte-among .ensures ∙ type-byte-among _ _ (s .pre) _)) ∙ sym (c .property-ok .ensures)
 
 first-bad-requires : tie.Need-first-bad-requires
 first-bad-requires c κs = search needs
@@ -71,8 +71,8 @@ returns-3 c =
 enum-told-3 : tie.Need-enum-told-3
 enum-told-3 c = search needs
 
-type-among-requires : tie.Need-type-among-requires
-type-among-requires c κs = search needs
+type-byte-among-requires : tie.Need-type-byte-among-requires
+type-byte-among-requires c κs = search needs
 
 property-ok-requires : tie.Need-property-ok-requires
 property-ok-requires c κs = search needs
@@ -105,7 +105,7 @@ records-verdict-spec =
     enum-known-i-3
     returns-3
     enum-told-3
-    type-among-requires
+    type-byte-among-requires
     property-ok-requires
     returns-4
     returns-5)

@@ -11,29 +11,29 @@ row-of-requires c κs = search needs
 has-type-requires : tie.Need-has-type-requires
 has-type-requires c κs = search needs
 
-cast-type-among : tie.Need-cast-type-among
-cast-type-among c = search needs
+cast-type-byte-among : tie.Need-cast-type-byte-among
+cast-type-byte-among c = search needs
 
-type-among-requires : tie.Need-type-among-requires
-type-among-requires c κs = search needs
+type-byte-among-requires : tie.Need-type-byte-among-requires
+type-byte-among-requires c κs = search needs
 
 is-typed-requires : tie.Need-is-typed-requires
 is-typed-requires c κs = search needs
 
-cast-type-among-2 : tie.Need-cast-type-among-2
-cast-type-among-2 c = search needs
+cast-type-byte-among-2 : tie.Need-cast-type-byte-among-2
+cast-type-byte-among-2 c = search needs
 
-type-among-requires-2 : tie.Need-type-among-requires-2
-type-among-requires-2 c κs = search needs
+type-byte-among-requires-2 : tie.Need-type-byte-among-requires-2
+type-byte-among-requires-2 c κs = search needs
 
 is-typed-requires-2 : tie.Need-is-typed-requires-2
 is-typed-requires-2 c κs = search needs
 
-cast-type-among-3 : tie.Need-cast-type-among-3
-cast-type-among-3 c = search needs
+cast-type-byte-among-3 : tie.Need-cast-type-byte-among-3
+cast-type-byte-among-3 c = search needs
 
-type-among-requires-3 : tie.Need-type-among-requires-3
-type-among-requires-3 c κs = search needs
+type-byte-among-requires-3 : tie.Need-type-byte-among-requires-3
+type-byte-among-requires-3 c κs = search needs
 
 is-typed-requires-3 : tie.Need-is-typed-requires-3
 is-typed-requires-3 c κs = search needs
@@ -46,11 +46,11 @@ returns c =
     let own = a .before .before .before in
     rw (
       c .is-typed3 .ensures,
-      c .before .type-among3 .ensures,
+      c .before .type-byte-among3 .ensures,
       b .is-typed2 .ensures,
-      b .before .type-among2 .ensures,
+      b .before .type-byte-among2 .ensures,
       a .is-typed .ensures,
-      a .before .type-among .ensures,
+      a .before .type-byte-among .ensures,
       own .has-type .ensures,
       own .before .row-of .ensures,
     )
@@ -61,13 +61,13 @@ types-ok-spec =
     (tie.spec
     row-of-requires
     has-type-requires
-    cast-type-among
-    type-among-requires
+    cast-type-byte-among
+    type-byte-among-requires
     is-typed-requires
-    cast-type-among-2
-    type-among-requires-2
+    cast-type-byte-among-2
+    type-byte-among-requires-2
     is-typed-requires-2
-    cast-type-among-3
-    type-among-requires-3
+    cast-type-byte-among-3
+    type-byte-among-requires-3
     is-typed-requires-3
     returns)

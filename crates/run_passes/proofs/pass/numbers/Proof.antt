@@ -8,7 +8,7 @@ use lib.IntN.{pos}
 use lib.ListN.{length, getD, length-set}
 use mir.Syntax.{w64}
 use mir.ValLaws.{toZ-ofZ}
-use Rattle.answers.proofs.FromTheFront.{below, none-set, one-more-set}
+use Rattle.answers.proofs.Prefix.{below, none-set, one-more-set}
 use Rattle.fields.specs.Fields.{i64Of, i64At}
 use Rattle.run_passes.specs.Pass.{inputAt}
 use Rattle.run_passes.proofs.Calls.{input-there, all-read, cut-off, inputs-are}

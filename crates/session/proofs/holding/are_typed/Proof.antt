@@ -8,7 +8,7 @@ use denote.Ref.{now}
 use borrow.Author.Tests.{not-true, not-false}
 use Rattle.answers.specs.Checks.{every}
 use Rattle.answers.proofs.Every.{every-none, every-more, every-not}
-use Rattle.node.proofs.Records.{kind-among}
+use Rattle.node.proofs.Records.{type-among}
 use Rattle.streams.proofs.Typed.{typed-is}
 use Rattle.session.specs.Records.{valueTyped}
 use borrow.Author.Needs.{needs}
@@ -24,8 +24,8 @@ abbrev μ-loop : tie.MeasureT-loop
 loop-holds : tie.Need-loop-holds Inv-loop μ-loop
 loop-holds c = (search needs, every-none _)
 
-kind-among-requires : tie.Need-kind-among-requires Inv-loop μ-loop
-kind-among-requires c κs = search needs
+type-among-requires : tie.Need-type-among-requires Inv-loop μ-loop
+type-among-requires c κs = search needs
 
 number-at-requires : tie.Need-number-at-requires Inv-loop μ-loop
 number-at-requires c κs = search needs
@@ -37,7 +37,7 @@ is-typed-requires c κs = search needs
 typed-made : (c : tie.After-is-typed Inv-loop μ-loop) → let s = c .before .before .before .before .before .before in c .is-typed .result ≡ valueTyped (now (s .args .file)) (now (s .args .values)) (c .before .before .before .before .loop .i)
 typed-made c =
     let s = c .before .before .before .before .before .before in
-    let kind-is = c .before .before .kind-among .ensures ∙ kind-among _ _ (s .pre) _ in
+    let kind-is = c .before .before .type-among .ensures ∙ type-among _ _ (s .pre) _ in
     typed-is _ _ (c .before .number-at .result) _ (search needs) kind-is (c .before .number-at .ensures) (c .is-typed .ensures)
 
 returns : tie.Need-returns Inv-loop μ-loop
@@ -64,7 +64,7 @@ are-typed-spec =
     Inv-loop
     μ-loop
     loop-holds
-    kind-among-requires
+    type-among-requires
     number-at-requires
     is-typed-requires
     returns

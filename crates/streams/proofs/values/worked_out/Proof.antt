@@ -10,7 +10,7 @@ use mir.Syntax.{w64}
 use mir.Val.{SFits}
 use mir.Facts.{toZ-ofZ}
 use Rattle.answers.specs.declared.Found.the-variants.{Nothing}
-use Rattle.answers.specs.Checks.{lowest, orAt}
+use Rattle.answers.specs.Checks.{lowest, orElse}
 use Rattle.node.specs.Inputs.{inputsBelow}
 use Rattle.node.specs.Layout.{streamsOf, recordsOf}
 use Rattle.node.proofs.InputCounts.{inputs-le, inputs-more}
@@ -62,8 +62,8 @@ value-of-requires c κs = let inv = c .before .before .loop .inv in (inv .0, inv
 is-inside-requires : tie.Need-is-inside-requires Inv-loop μ-loop
 is-inside-requires c κs = search needs
 
-or-at-requires : tie.Need-or-at-requires Inv-loop μ-loop
-or-at-requires c κs = search needs
+or-else-requires : tie.Need-or-else-requires Inv-loop μ-loop
+or-else-requires c κs = search needs
 
 number-of-requires : tie.Need-number-of-requires Inv-loop μ-loop
 number-of-requires c κs = search needs
@@ -85,15 +85,15 @@ loop-less c = search needs
 
 loop-again : tie.Need-loop-again Inv-loop μ-loop
 loop-again c =
-    let or-at = c .before .before in
-    let at = or-at .before .before .before .before .before in
+    let or-else = c .before .before in
+    let at = or-else .before .before .before .before .before in
     let a = at .before .before .before .before .args in
     let inv = at .loop .inv in
     let few : at .loop .i < 64 = omega (arith, inv .1, counted (now (a .file)) .1) in
     let l : at .loop .i < streamsOf (now (a .file)) = omega (arith, inv .1, counted (now (a .file)) .0) in
     let fits : at .loop .j < 2 ^ 63 = omega (arith, inputs-le (now (a .file)) (at .loop .i), inv .4) in
-    let made = or-at .before .before .value-of .ensures in
-    let found-is = or-at .or-at .ensures ∙ ap (λ ok. orAt (at .loop .outside) ok (at .loop .i)) (or-at .before .is-inside .ensures ∙ ap isValue made) in
+    let made = or-else .before .before .value-of .ensures in
+    let found-is = or-else .or-else .ensures ∙ ap (λ ok. orElse (at .loop .outside) ok (at .loop .i)) (or-else .before .is-inside .ensures ∙ ap isValue made) in
     let number-is = c .before .number-of .ensures ∙ ap numberIn made in
     let f : SFits w64 (c .before .number-of .result) = search needs in (
       inv .0,
@@ -132,7 +132,7 @@ worked-out-spec =
     slice-aggregate-value-of
     value-of-requires
     is-inside-requires
-    or-at-requires
+    or-else-requires
     number-of-requires
     mul-values
     array-set-from-values
