@@ -77,6 +77,12 @@ module _ (node cert : List ℕ) (f : Frame) (ch : Checking node cert f) where
     line-here : lineAt cert at ≡ lineOf cert i
     line-here = ap (lineAt cert) e ∙ ap (λ (of : ℕ → Line). of i) lines
 
+    pub equation-is : equationIn (f .streams) (typeAt node) (equationAt node) (constraintsFrom cert (f .start)) (f .constraints) (partIn f i .offsets) (partIn f i .opening) (lineAt cert at) ≡ equationPasses node cert i
+    equation-is =
+        ap₂
+        (λ (g : Frame) (line : Line). equationIn (g .streams) (typeAt node) (equationAt node) (constraintsFrom cert (g .start)) (g .constraints) (partIn g i .offsets) (partIn g i .opening) line)
+        (ch .frame) line-here
+
     pub arithmetic-is : arithmeticOk (constraintsFrom cert (f .start)) (lineAt cert at) ≡ arithmeticPasses cert i
     arithmetic-is = ap₂ (λ (g : Frame) (line : Line). arithmeticOk (constraintsFrom cert (g .start)) line) (ch .frame) line-here
 
@@ -99,12 +105,6 @@ module _ (node cert : List ℕ) (f : Frame) (ch : Checking node cert f) where
       shape-is types are-types =
           ap₂ (λ (g : Frame) (line : Line). shapeOk (typesOf types) (g .depth) (g .constraints) line) (ch .frame) line-is
           ∙ ap (λ (of : Types). shapeOk of (trailerOf cert .depth) (trailerOf cert .constraints) (lineOf cert i)) (fun-ext are-types)
-
-      pub equation-is : equationIn (f .streams) (typeAt node) (equationAt node) (constraintsFrom cert (f .start)) (f .constraints) (partIn f i .offsets) (partIn f i .opening) (lineWith cert at h) ≡ equationPasses node cert i
-      equation-is =
-          ap₂
-          (λ (g : Frame) (line : Line). equationIn (g .streams) (typeAt node) (equationAt node) (constraintsFrom cert (g .start)) (g .constraints) (partIn g i .offsets) (partIn g i .opening) line)
-          (ch .frame) line-is
 
       pub property-is : partIn f i .property (lineWith cert at h) ≡ propertyPasses node cert i
       property-is = ap₂ (λ (g : Frame) (line : Line). partIn g i .property line) (ch .frame) line-is

@@ -1,9 +1,8 @@
 // Rule 17: equation lines.
-use crate::frame::Frame;
+use crate::layout::line_head;
 use crate::layout::literal_at;
 use crate::matching::matches;
 use clauses::clause_of;
-use constraints::LineHead;
 use node::equation_among;
 use node::type_among;
 use rules::Clause;
@@ -14,23 +13,23 @@ ghost use mathlib.Core.Path.{_≡_};
 ghost use lib.ListN.{length};
 ghost use Rattle.node.specs.Equations.{typeAt, equationAt};
 ghost use Rattle.node.specs.Layout.{recordsOf};
+ghost use Rattle.constraints.specs.Layout.{lineAt};
 ghost use Rattle.rules.specs.Lines.{clauseIs, positionOf, equationIn};
 ghost use Rattle.clauses.specs.Limits.{SmallPattern};
 ghost use Rattle.certificate.specs.Content.{Readable};
-ghost use Rattle.certificate.specs.Ready.{lineWith};
 ghost use Rattle.certificate.specs.Sums.{constraintsFrom};
 ghost use Rattle.certificate.specs.Constants.{ConstantsLimited};
 
 // The literals of the line at an offset are those of a clause, in its order.
-fn is_clause(cert: &[u8], start: usize, m: usize, at: usize, h: LineHead, c: Clause) -> bool
+fn is_clause(cert: &[u8], start: usize, m: usize, at: usize, c: Clause) -> bool
     requires { ⌜ Readable (now cert) start m × (at + 80 ≤ length (now cert)) ⌝ }
     requires { ⌜ SmallPattern (c .first) × SmallPattern (c .second) × SmallPattern (c .third) ⌝ }
-    ensures { λ r. ⌜ r ≡ clauseIs (constraintsFrom (now (cert .entry)) start) m (lineWith (now (cert .entry)) at h) c ⌝ }
+    ensures { λ r. ⌜ r ≡ clauseIs (constraintsFrom (now (cert .entry)) start) m (lineAt (now (cert .entry)) at) c ⌝ }
 {
     let first = c.first;
     let second = c.second;
     let third = c.third;
-    let count = h.count as usize;
+    let count = line_head(cert, at).count as usize;
     if !((count == c.count) & matches(cert, start, m, first, literal_at(cert, at, 0))) {
         return false;
     }
@@ -57,17 +56,18 @@ fn position_of(opening: Position, q: u16) -> Position
 pub fn equation_ok(
     node: &[u8],
     cert: &[u8],
-    f: Frame,
+    start: usize,
+    m: usize,
     at: usize,
-    h: LineHead,
+    n: usize,
     offsets: usize,
     opening: Position,
 ) -> bool
-    requires { ⌜ Readable (now cert) (f .start) (f .constraints) × (at + 80 ≤ length (now cert)) ⌝ }
-    requires { ⌜ ConstantsLimited (now node) (f .streams) × (offsets ≤ 9) × (f .streams ≡ recordsOf (now node)) ⌝ }
-    ensures { λ r. ⌜ r ≡ equationIn (f .streams) (typeAt (now (node .entry))) (equationAt (now (node .entry))) (constraintsFrom (now (cert .entry)) (f .start)) (f .constraints) offsets opening (lineWith (now (cert .entry)) at h) ⌝ }
+    requires { ⌜ Readable (now cert) start m × (at + 80 ≤ length (now cert)) ⌝ }
+    requires { ⌜ ConstantsLimited (now node) n × (offsets ≤ 9) × (n ≡ recordsOf (now node)) ⌝ }
+    ensures { λ r. ⌜ r ≡ equationIn n (typeAt (now (node .entry))) (equationAt (now (node .entry))) (constraintsFrom (now (cert .entry)) start) m offsets opening (lineAt (now (cert .entry)) at) ⌝ }
 {
-    let n = f.streams;
+    let h = line_head(cert, at);
     let p = h.p as usize;
     let q = h.q as usize;
     if !((p < n) & (q < offsets)) {
@@ -82,7 +82,7 @@ pub fn equation_ok(
         h.p,
         h.r,
     ) {
-        Named::Is(c) => is_clause(cert, f.start, f.constraints, at, h, c),
+        Named::Is(c) => is_clause(cert, start, m, at, c),
         Named::Missing => false,
     }
 }

@@ -17,7 +17,7 @@ ghost use mathlib.Core.Bool.{true, cond};
 ghost use lib.IntN.{pos};
 ghost use lib.ListN.{length, replicate};
 ghost use Rattle.node.specs.Equations.{typeAt, equationAt};
-ghost use Rattle.constraints.specs.Layout.{lineHeadAt};
+ghost use Rattle.constraints.specs.Layout.{lineHeadAt, lineAt};
 ghost use Rattle.constraints.specs.Rules.{typesOf};
 ghost use Rattle.rules.specs.Joins.{joinOk};
 ghost use Rattle.rules.specs.Lines.{equationIn};
@@ -27,16 +27,19 @@ ghost use Rattle.certificate.specs.Frame.{partIn};
 ghost use Rattle.certificate.specs.Ready.{LinesReady, lineWith, linesAt};
 ghost use Rattle.certificate.specs.Sums.{constraintsFrom};
 
-// Rule 17, of line i, which stands at an offset and has this head.
-fn equation_passes(node: &[u8], cert: &[u8], f: Frame, at: usize, h: LineHead, i: usize) -> bool
+// Rule 17, of line i, which stands at an offset.
+fn equation_passes(node: &[u8], cert: &[u8], f: Frame, at: usize, i: usize) -> bool
     requires { ⌜ Checking (now node) (now cert) f × (at + 80 ≤ length (now cert)) ⌝ }
-    ensures { λ r. ⌜ r ≡ equationIn (f .streams) (typeAt (now (node .entry))) (equationAt (now (node .entry))) (constraintsFrom (now (cert .entry)) (f .start)) (f .constraints) (partIn f i .offsets) (partIn f i .opening) (lineWith (now (cert .entry)) at h) ⌝ }
+    ensures { λ r. ⌜ r ≡ equationIn (f .streams) (typeAt (now (node .entry))) (equationAt (now (node .entry))) (constraintsFrom (now (cert .entry)) (f .start)) (f .constraints) (partIn f i .offsets) (partIn f i .opening) (lineAt (now (cert .entry)) at) ⌝ }
 {
+    let start = f.start;
+    let m = f.constraints;
+    let n = f.streams;
     let depth = f.depth as usize;
     if i < f.base {
-        equation_ok(node, cert, f, at, h, depth, Position::Opening)
+        equation_ok(node, cert, start, m, at, n, depth, Position::Opening)
     } else {
-        equation_ok(node, cert, f, at, h, depth + 1, Position::Unsure)
+        equation_ok(node, cert, start, m, at, n, depth + 1, Position::Unsure)
     }
 }
 
@@ -89,7 +92,7 @@ fn own_fault(
 {
     let kind = h.kind;
     if kind == 1 {
-        let ok = equation_passes(node, cert, f, at, h, i);
+        let ok = equation_passes(node, cert, f, at, i);
         return unless(ok, refusals::EQUATION);
     }
     if kind == 2 {

@@ -8,7 +8,7 @@ use native.Mathlib.Omega.{arith}
 use borrow.Author.Tests.{not-true, not-false, le-leb, lt-leb}
 use denote.Ref.{now}
 use lib.Dec.{eqb, leb}
-use Rattle.constraints.specs.Layout.{literalAt}
+use Rattle.constraints.specs.Layout.{lineHeadAt, literalAt}
 use Rattle.rules.specs.declared.pattern.Pattern.{Pattern}
 use Rattle.rules.specs.Lines.{clauseIs}
 use Rattle.rules.specs.Matching.{matchesOf}
@@ -42,14 +42,17 @@ abbrev matchesAt : (cert : List ℕ) → (start m at : ℕ) → Pattern → (j :
 matchesAt cert start m at p j = matchesOf (constraintsFrom cert start) m p (literalAt cert at j)
 
 -- the definition's tests are those that were made
-first-is : (c : tie.After-matches) → let a = c .before .before .before .before .before .args in (eqb (a .h .count) (a .c .count) && matchesAt (now (a .cert)) (a .start) (a .m) (a .at) (a .c .first) 0) ≡ (eqb (a .h .count) (a .c .count) && c .matches .result)
-first-is c = rw (c .matches .ensures, c .before .literal-at .ensures)
+first-is : (c : tie.After-matches) → let a = c .before .before .before .before .before .before .args in (eqb (lineHeadAt (now (a .cert)) (a .at) .count) (a .c .count) && matchesAt (now (a .cert)) (a .start) (a .m) (a .at) (a .c .first) 0) ≡ (eqb (c .before .before .before .before .line-head .result .count) (a .c .count) && c .matches .result)
+first-is c = rw (c .matches .ensures, c .before .literal-at .ensures, c .before .before .before .before .line-head .ensures)
 
-second-is : (c : tie.After-matches2) → let a = c .before .before .before .before .before .before .before .before .before .before .args in matchesAt (now (a .cert)) (a .start) (a .m) (a .at) (a .c .second) 1 ≡ c .matches2 .result
+second-is : (c : tie.After-matches2) → let a = c .before .before .before .before .before .before .before .before .before .before .before .args in matchesAt (now (a .cert)) (a .start) (a .m) (a .at) (a .c .second) 1 ≡ c .matches2 .result
 second-is c = rw (c .matches2 .ensures, c .before .literal-at2 .ensures)
 
-passed : (c : tie.Else1) → let a = c .before .before .before .before .before .before .args in (eqb (a .h .count) (a .c .count) && matchesAt (now (a .cert)) (a .start) (a .m) (a .at) (a .c .first) 0) ≡ true
+passed : (c : tie.Else1) → let a = c .before .before .before .before .before .before .before .args in (eqb (lineHeadAt (now (a .cert)) (a .at) .count) (a .c .count) && matchesAt (now (a .cert)) (a .start) (a .m) (a .at) (a .c .first) 0) ≡ true
 passed c = first-is (c .before) ∙ not-false _ (c .if1 .left)
+
+line-head-requires : tie.Need-line-head-requires
+line-head-requires c κs = search needs
 
 cast-count : tie.Need-cast-count
 cast-count c = search needs
@@ -88,17 +91,17 @@ returns-4 c =
     ends-at-two _ _ _ _ (passed (at .before .before)) (at .if2 .left) (second-is (past .before) ∙ not-false _ (past .if3 .left)) (c .if4 .taken)
 
 literal-at-requires-3 : tie.Need-literal-at-requires-3
-literal-at-requires-3 c κs = (c .before .before .before .before .before .before .before .before .before .before .before .before .before .pre .0 .1, omega arith)
+literal-at-requires-3 c κs = (c .before .before .before .before .before .before .before .before .before .before .before .before .before .before .pre .0 .1, omega arith)
 
 matches-requires-3 : tie.Need-matches-requires-3
-matches-requires-3 c κs = let s = c .before .before .before .before .before .before .before .before .before .before .before .before .before .before in (s .pre .0 .0, s .pre .1 .2)
+matches-requires-3 c κs = let s = c .before .before .before .before .before .before .before .before .before .before .before .before .before .before .before in (s .pre .0 .0, s .pre .1 .2)
 
 returns-5 : tie.Need-returns-5
 unfolding clauseIs
 returns-5 c =
     let past = c .before .before .before .before in
     let at = past .before .before .before in
-    let a = at .before .before .before .before .before .before .before .before .args in
+    let a = at .before .before .before .before .before .before .before .before .before .args in
     c .matches3 .ensures
     ∙ ap (matchesOf (constraintsFrom (now (a .cert)) (a .start)) (a .m) (a .c .third)) (c .before .literal-at3 .ensures)
     ∙ third-is _ _ _ _ (passed (at .before .before)) (at .if2 .left) (second-is (past .before) ∙ not-false _ (past .if3 .left)) (c .before .before .if4 .left)
@@ -107,6 +110,7 @@ pub is-clause-spec : {M : Type 1} → statement M
 is-clause-spec =
     tie.close
     (tie.spec
+    line-head-requires
     cast-count
     literal-at-requires
     matches-requires

@@ -45,7 +45,7 @@ returns c =
     let one = c .before .before in
     let s = one .before .before .before in (
       c .unless .ensures
-          ∙ ap (λ (b : Bool). cond b 0 17) (c .before .equation-passes .ensures ∙ equation-is _ _ _ (s .pre .0 .0) _ _ (s .pre .0 .1) _ (s .pre .0 .2))
+          ∙ ap (λ (b : Bool). cond b 0 17) (c .before .equation-passes .ensures ∙ equation-is _ _ _ (s .pre .0 .0) _ _ (s .pre .0 .1))
           ∙ sym (fault-1 _ _ _ _ _ (kind-is s ∙ one .if1 .taken)),
       λ e. s .pre .1 .1,
     )
