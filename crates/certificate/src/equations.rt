@@ -1,4 +1,5 @@
 // Rule 17: equation lines.
+use crate::frame::Frame;
 use crate::layout::line_head;
 use crate::layout::literal_at;
 use crate::matching::matches;
@@ -52,21 +53,21 @@ fn position_of(opening: Position, q: u16) -> Position
     if q == 0 { opening } else { Position::Inner }
 }
 
-// Rule 17, of the line at an offset: clause r of stream p at offset q, which is below `offsets`.
+// Rule 17, of the line at an offset: clause r of stream p at offset q, which is below `offsets`. It reads the line's head itself: handed
+// to a call of this size, the head goes through memory, which took a tenth longer.
 pub fn equation_ok(
     node: &[u8],
     cert: &[u8],
-    start: usize,
-    m: usize,
+    f: Frame,
     at: usize,
-    n: usize,
     offsets: usize,
     opening: Position,
 ) -> bool
-    requires { ⌜ Readable (now cert) start m × (at + 80 ≤ length (now cert)) ⌝ }
-    requires { ⌜ ConstantsLimited (now node) n × (offsets ≤ 9) × (n ≡ recordsOf (now node)) ⌝ }
-    ensures { λ r. ⌜ r ≡ equationIn n (typeAt (now (node .entry))) (equationAt (now (node .entry))) (constraintsFrom (now (cert .entry)) start) m offsets opening (lineAt (now (cert .entry)) at) ⌝ }
+    requires { ⌜ Readable (now cert) (f .start) (f .constraints) × (at + 80 ≤ length (now cert)) ⌝ }
+    requires { ⌜ ConstantsLimited (now node) (f .streams) × (offsets ≤ 9) × (f .streams ≡ recordsOf (now node)) ⌝ }
+    ensures { λ r. ⌜ r ≡ equationIn (f .streams) (typeAt (now (node .entry))) (equationAt (now (node .entry))) (constraintsFrom (now (cert .entry)) (f .start)) (f .constraints) offsets opening (lineAt (now (cert .entry)) at) ⌝ }
 {
+    let n = f.streams;
     let h = line_head(cert, at);
     let p = h.p as usize;
     let q = h.q as usize;
@@ -82,7 +83,7 @@ pub fn equation_ok(
         h.p,
         h.r,
     ) {
-        Named::Is(c) => is_clause(cert, start, m, at, c),
+        Named::Is(c) => is_clause(cert, f.start, f.constraints, at, c),
         Named::Missing => false,
     }
 }

@@ -32,14 +32,11 @@ fn equation_passes(node: &[u8], cert: &[u8], f: Frame, at: usize, i: usize) -> b
     requires { ⌜ Checking (now node) (now cert) f × (at + 80 ≤ length (now cert)) ⌝ }
     ensures { λ r. ⌜ r ≡ equationIn (f .streams) (typeAt (now (node .entry))) (equationAt (now (node .entry))) (constraintsFrom (now (cert .entry)) (f .start)) (f .constraints) (partIn f i .offsets) (partIn f i .opening) (lineAt (now (cert .entry)) at) ⌝ }
 {
-    let start = f.start;
-    let m = f.constraints;
-    let n = f.streams;
     let depth = f.depth as usize;
     if i < f.base {
-        equation_ok(node, cert, start, m, at, n, depth, Position::Opening)
+        equation_ok(node, cert, f, at, depth, Position::Opening)
     } else {
-        equation_ok(node, cert, start, m, at, n, depth + 1, Position::Unsure)
+        equation_ok(node, cert, f, at, depth + 1, Position::Unsure)
     }
 }
 

@@ -26,13 +26,13 @@ use Rattle.certificate.proofs.equations.equation_ok.Statement.{statemen
 use Rattle.certificate.proofs.equations.equation_ok.Tie as tie
 
 -- the test that was made
-inside : (c : tie.After-struct-known2) → let a = c .before .before .before .before .before .args in let h = lineHeadAt (now (a .cert)) (a .at) in (ltb (h .p) (a .n) && ltb (h .q) (a .offsets)) ≡ (ltb (c .before .before .line-head .result .p) (a .n) && ltb (c .before .before .line-head .result .q) (a .offsets))
-inside c = let a = c .before .before .before .before .before .args in ap (λ (h : LineHead). ltb (h .p) (a .n) && ltb (h .q) (a .offsets)) (sym (c .before .before .line-head .ensures))
+inside : (c : tie.After-struct-known2) → let a = c .before .before .before .before .before .args in let h = lineHeadAt (now (a .cert)) (a .at) in (ltb (h .p) (a .f .streams) && ltb (h .q) (a .offsets)) ≡ (ltb (c .before .before .line-head .result .p) (a .f .streams) && ltb (c .before .before .line-head .result .q) (a .offsets))
+inside c = let a = c .before .before .before .before .before .args in ap (λ (h : LineHead). ltb (h .p) (a .f .streams) && ltb (h .q) (a .offsets)) (sym (c .before .before .line-head .ensures))
 
-passed : (c : tie.Else1) → let a = c .before .before .before .before .before .before .args in let h = c .before .before .before .line-head .result in (ltb (h .p) (a .n) ≡ true) × (ltb (h .q) (a .offsets) ≡ true)
+passed : (c : tie.Else1) → let a = c .before .before .before .before .before .before .args in let h = c .before .before .before .line-head .result in (ltb (h .p) (a .f .streams) ≡ true) × (ltb (h .q) (a .offsets) ≡ true)
 passed c = both-true _ (ltb (c .before .before .before .line-head .result .q) (c .before .before .before .before .before .before .args .offsets)) (not-false _ (c .if1 .left))
 
-p-below : (c : tie.Else1) → c .before .before .before .line-head .result .p < c .before .before .before .before .before .before .args .n
+p-below : (c : tie.Else1) → c .before .before .before .line-head .result .p < c .before .before .before .before .before .before .args .f .streams
 p-below c = ltb-true _ _ (passed c .0)
 
 q-below : (c : tie.Else1) → c .before .before .before .line-head .result .q < c .before .before .before .before .before .before .args .offsets
@@ -112,7 +112,7 @@ returns-2 c =
     let line = lineAt (now (a .cert)) (a .at) in
     rw (inside (c .before .before .before .before .before .before .before .before .before) ∙ not-false _ (c .before .before .before .before .before .before .before .before .if1 .left))
     (c .is-clause .ensures
-    ∙ ap (literalsAre (constraintsFrom (now (a .cert)) (a .start)) (a .m) line) (sym (looked-up (c .before .before .before .before) ∙ c .before .before .c .given .1)))
+    ∙ ap (literalsAre (constraintsFrom (now (a .cert)) (a .f .start)) (a .f .constraints) line) (sym (looked-up (c .before .before .before .before) ∙ c .before .before .c .given .1)))
 
 returns-3 : tie.Need-returns-3
 unfolding equationIn
@@ -120,7 +120,7 @@ returns-3 c =
     let a = c .before .before .before .before .before .before .before .before .before .before .before .before .args in
     let line = lineAt (now (a .cert)) (a .at) in
     rw (inside (c .before .before .before .before .before .before .before) ∙ not-false _ (c .before .before .before .before .before .before .if1 .left))
-    (ap (literalsAre (constraintsFrom (now (a .cert)) (a .start)) (a .m) line) (sym (looked-up (c .before .before) ∙ c .enum-told .given .1)))
+    (ap (literalsAre (constraintsFrom (now (a .cert)) (a .f .start)) (a .f .constraints) line) (sym (looked-up (c .before .before) ∙ c .enum-told .given .1)))
 
 pub equation-ok-spec : {M : Type 1} → statement M
 equation-ok-spec =
