@@ -1,4 +1,5 @@
 // Rule 19: joins.
+use crate::frame::block_at;
 use crate::layout::line_head;
 use crate::search::covers;
 use crate::search::stands_from;
@@ -31,18 +32,13 @@ pub fn join_ok(file: &[u8], lines: usize, from: usize, i: usize) -> bool
     requires { ⌜ LinesReady (now file) lines i ⌝ }
     ensures { λ z. ⌜ z ≡ joinOk (linesAt (now (file .entry)) lines) from i ⌝ }
 {
-    let at = lines + 80 * i;
+    let at = block_at(lines, i);
     let head = line_head(file, at);
     let p = head.p as usize;
     let q = head.q as usize;
     if !((from <= p) & (p < i) & ((from <= q) & (q < i))) {
         return false;
     }
-    is_join(
-        file,
-        lines + 80 * p,
-        lines + 80 * q,
-        Literal(head.r as usize),
-        at,
-    )
+    let r = Literal(head.r as usize);
+    is_join(file, block_at(lines, p), block_at(lines, q), r, at)
 }

@@ -37,8 +37,8 @@ is-typed-requires c κs = search needs
 typed-made : (c : tie.After-is-typed Inv-loop μ-loop) → let s = c .before .before .before .before .before .before in c .is-typed .result ≡ valueTyped (now (s .args .file)) (now (s .args .values)) (c .before .before .before .before .loop .i)
 typed-made c =
     let s = c .before .before .before .before .before .before in
-    let kind-is = c .before .before .type-among .ensures ∙ type-among _ _ (s .pre) _ in
-    typed-is _ _ (c .before .number-at .result) _ (search needs) kind-is (c .before .number-at .ensures) (c .is-typed .ensures)
+    let type-is = c .before .before .type-among .ensures ∙ type-among _ _ (s .pre) _ in
+    typed-is _ _ (c .before .number-at .result) _ (search needs) type-is (c .before .number-at .ensures) (c .is-typed .ensures)
 
 returns : tie.Need-returns Inv-loop μ-loop
 returns c = sym (every-not _ _ _ (c .before .before .before .before .loop-test .taken) (sym (typed-made (c .before)) ∙ not-true _ (c .if1 .taken)))

@@ -24,9 +24,9 @@ returns : tie.Need-returns
 returns c =
     let read = c .before .before .before in
     let pre = read .before .before .pre in
-    let kind-is = c .before .before .type-among .ensures ∙ type-among _ _ pre _ in
+    let type-is = c .before .before .type-among .ensures ∙ type-among _ _ pre _ in
     ap₂ (λ (a b : Bool). not a || b) (read .is-input-among .ensures ∙ is-input-among _ _ pre _)
-    (typed-is _ _ (c .before .number-at .result) _ (search needs) kind-is (c .before .number-at .ensures) (c .is-typed .ensures))
+    (typed-is _ _ (c .before .number-at .result) _ (search needs) type-is (c .before .number-at .ensures) (c .is-typed .ensures))
 
 pub input-fits-spec : {M : Type 1} → statement M
 input-fits-spec =
