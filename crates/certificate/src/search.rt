@@ -10,19 +10,20 @@ ghost use Rattle.answers.specs.Checks.{every};
 ghost use Rattle.constraints.specs.Layout.{literalAt};
 ghost use Rattle.rules.specs.Joins.{standsFrom, coveredBy};
 
-// The search for a literal: whether l stands among the literals from j on of the line at an offset, which lists count. A call looks
-// at one literal, and calls itself on the rest.
+// The search for a literal: whether l stands among the literals from j on of the line at an offset, which lists count. One loop, so
+// that a debugger shows a call for each search and not for each literal.
 pub fn stands_from(file: &[u8], at: usize, count: usize, l: Literal, j: usize) -> bool
     requires { ⌜ (at + 80 ≤ length (now file)) × (count ≤ 12) ⌝ }
     ensures { λ r. ⌜ r ≡ standsFrom (literalAt (now (file .entry)) at) (l .0) j (count - j) ⌝ }
 {
-    if count <= j {
-        return false;
+    let mut i = j;
+    while i < count {
+        if literal_at(file, at, i).0 == l.0 {
+            return true;
+        }
+        i += 1;
     }
-    if literal_at(file, at, j).0 == l.0 {
-        return true;
-    }
-    stands_from(file, at, count, l, j + 1)
+    false
 }
 
 // A literal is the one left out, or stands in the line at an offset.
