@@ -1,4 +1,4 @@
--- What rules 11 to 16 give a line of kind 4: it may be checked.
+-- What rules 11 to 16 give a line of kind 4 or 5: it may be checked.
 -- Assumes nothing.
 use mathlib.Core.Path.{_≡_}
 use mathlib.Core.List.{List}
@@ -6,7 +6,7 @@ use mathlib.Core.Bool.{true}
 use Prim.Native.Nat.{ℕ, _+_, _≤_, _<_}
 use native.Mathlib.Omega.{arith}
 use lib.ListN.{length}
-use Rattle.constraints.specs.Layout.{trailerOf, startOf, constraintOf, lineHeadAt, literalAt, multiplierAt}
+use Rattle.constraints.specs.Layout.{trailerOf, startOf, constraintOf, lineHeadAt, literalAt}
 use Rattle.constraints.specs.Ready.{Ready}
 use Rattle.constraints.specs.Rules.{Types}
 use Rattle.literals.specs.Literals.{atomOf, constraintNumber}
@@ -14,17 +14,15 @@ use Rattle.rules.specs.Literals.{namesAtom}
 use Rattle.rules.proofs.ConstraintLimits.{Few, limited, names-constraint}
 use Rattle.certificate.specs.Checkable.{Checkable}
 
--- a line within a file that passes rules 11 to 15, whose counts, multipliers and literals pass rule 16
+-- a line within a file that passes rules 11 to 15, whose count and literals pass rule 16
 pub checkable : (types : Types) → Few types → (s : List ℕ) → Ready types s → (at : ℕ) → at + 80 ≤ length s
     → lineHeadAt s at .count ≤ 12
-    → ((j : ℕ) → j < lineHeadAt s at .count → multiplierAt s at j ≤ 1000000)
     → ((j : ℕ) → j < lineHeadAt s at .count → namesAtom types (trailerOf s .depth) (trailerOf s .constraints) (atomOf (literalAt s at j)) ≡ true)
     → Checkable s (startOf s) at
-checkable types few s ready at room count multipliers literals =
+checkable types few s ready at room count literals =
     record {
       room = room;
       few = count;
-      multipliers = multipliers;
       constraints =
           λ j l on.
           let i = constraintNumber (atomOf (literalAt s at j)) in

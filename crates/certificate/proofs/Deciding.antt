@@ -10,8 +10,8 @@ use lib.IntN.{ℤ, pos, negℤ}
 use lib.ListN.{replicate}
 use lib.Signed.{leZ}
 use Rattle.answers.specs.Checks.{every}
-use Rattle.answers.proofs.Every.{every-all, every-of}
-use Rattle.constraints.specs.Layout.{Constraint, Line, usedIn, listedIn, lineHeadAt, literalAt}
+use Rattle.answers.proofs.Every.{every-of}
+use Rattle.constraints.specs.Layout.{Constraint, Line, usedIn, listedIn, lineHeadAt, literalAt, multiplierAt}
 use Rattle.literals.specs.Literals.{atomOf, isConstraint}
 use Rattle.rules.specs.Limited.{Named}
 use Rattle.rules.specs.Arithmetic.{sumOf, arithmeticOk}
@@ -71,16 +71,15 @@ passed-clear constraints line e =
     sym (after-all constraints line n refl (every-of (λ j. isConstraint (atomOf (line .literal j))) n (told .on-constraints)))
     ∙ zeros-are 576 (sumsOf constraints line n) (length-sums constraints line n) λ x l. sums-are constraints line n x l ∙ told .zeros x l
 
--- where all literals are on constraints, each is usable
-pub each-usable : (s : List ℕ) (start at n : ℕ) → Checkable s start at → n ≡ lineHeadAt s at .count
-    → every (λ j. isConstraint (atomOf (literalAt s at j))) n ≡ true → (j : ℕ) → j < n → Usable s start at j
-each-usable s start at n good e all j l =
+-- a listed literal on a constraint, with a multiplier within the limit, is usable
+pub usable : (s : List ℕ) (start at n : ℕ) → Checkable s start at → n ≡ lineHeadAt s at .count → (j : ℕ) → j < n
+    → isConstraint (atomOf (literalAt s at j)) ≡ true → multiplierAt s at j ≤ 1000000 → Usable s start at j
+usable s start at n good e j l on small =
     let k : j < lineHeadAt s at .count = omega arith in
-    let on = every-all (λ j. isConstraint (atomOf (literalAt s at j))) n all j l in
     record {
       room = good .room;
       listed = omega (arith, good .few);
-      multiplier = good .multipliers j k;
+      multiplier = small;
       constraint = on;
       summable = good .constraints j k on;
     }

@@ -1,6 +1,7 @@
 pub mod Adding
 pub mod Checkables
 pub mod Coefficients
+pub mod Cutting
 pub mod Deciding
 pub mod LineFacts
 pub mod Named

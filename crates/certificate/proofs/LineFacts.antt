@@ -14,9 +14,10 @@ use Rattle.constraints.specs.declared.layout.LineHead.{LineHead}
 use Rattle.constraints.specs.Layout.{Line, trailerOf, lineHeadAt, lineAt, lineOf, constraintOf}
 use Rattle.constraints.specs.Rules.{Types, typesOf}
 use Rattle.rules.specs.Arithmetic.{arithmeticOk}
+use Rattle.rules.specs.Cuts.{cutOk}
 use Rattle.rules.specs.Joins.{joinOk}
 use Rattle.rules.specs.Lines.{equationIn, shapeOk}
-use Rattle.rules.specs.Verdict.{typesOfNode, shapePasses, equationPasses, propertyPasses, joinPasses, arithmeticPasses}
+use Rattle.rules.specs.Verdict.{typesOfNode, shapePasses, equationPasses, propertyPasses, joinPasses, arithmeticPasses, cutPasses}
 use Rattle.rules.proofs.ConstraintLimits.{Few, limited}
 use Rattle.rules.proofs.CertificateFacts.{few-streams}
 use Rattle.rules.proofs.LineParts.{from-is}
@@ -86,6 +87,9 @@ module _ (node cert : List ℕ) (f : Frame) (ch : Checking node cert f) where
     pub arithmetic-is : arithmeticOk (constraintsFrom cert (f .start)) (lineAt cert at) ≡ arithmeticPasses cert i
     arithmetic-is = ap₂ (λ (g : Frame) (line : Line). arithmeticOk (constraintsFrom cert (g .start)) line) (ch .frame) line-here
 
+    pub cut-is : cutOk (constraintsFrom cert (f .start)) (lineAt cert at) ≡ cutPasses cert i
+    cut-is = ap₂ (λ (g : Frame) (line : Line). cutOk (constraintsFrom cert (g .start)) line) (ch .frame) line-here
+
     pub line-shape : shapePasses node cert i ≡ true → ShapeFacts (typesOfNode node) (trailerOf cert .depth) (trailerOf cert .constraints) (lineAt cert at)
     unfolding shapePasses
     line-shape passed = rw line-here (shape-facts (typesOfNode node) (trailerOf cert .depth) (trailerOf cert .constraints) (lineOf cert i) passed)
@@ -93,7 +97,7 @@ module _ (node cert : List ℕ) (f : Frame) (ch : Checking node cert f) where
     pub line-checkable : at + 80 ≤ length cert → shapePasses node cert i ≡ true → Checkable cert (f .start) at
     line-checkable room passed =
         let shape = line-shape passed in
-        rw (ch .frame) (checkable (typesOfNode node) few cert (ch .ready) at room (shape .count) (shape .multipliers) (shape .atoms))
+        rw (ch .frame) (checkable (typesOfNode node) few cert (ch .ready) at room (shape .count) (shape .atoms))
 
     -- .. and whose head was read
     module _ (h : LineHead) (g : h ≡ lineHeadAt cert at) where

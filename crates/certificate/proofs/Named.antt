@@ -11,6 +11,7 @@ use lib.IntN.{ℤ, pos}
 use lib.ListN.{length, getD, replicate}
 use Rattle.answers.specs.Checks.{every}
 use Rattle.answers.proofs.Every.{every-all, every-of}
+use Rattle.answers.proofs.Tests.{same-test}
 use Rattle.constraints.specs.Layout.{Constraint, Line, usedIn}
 use Rattle.constraints.specs.Linear.{Form, variable, coefficient, scaled, written, sameZ}
 use Rattle.rules.specs.Arithmetic.{sumOf}
@@ -37,12 +38,6 @@ zeros-are zero (z ∷ l) e h = absurd (omega (arith, e))
 zeros-are (suc n) [] e h = absurd (omega (arith, e))
 zeros-are (suc n) (z ∷ l) e h =
     ap₂ _∷_ (h 0 (omega arith)) (zeros-are n l (omega (arith, e)) (λ x k. h (suc x) (omega arith)))
-
--- tests of which each holds where the other does
-pub same-test : (a b : Bool) → (a ≡ true → b ≡ true) → (b ≡ true → a ≡ true) → a ≡ b
-same-test true b f g = sym (f refl)
-same-test false true f g = g refl
-same-test false false f g = refl
 
 module _ (constraints : ℕ → Constraint) (line : Line) where
   unnamed : (n x : ℕ)

@@ -8,12 +8,11 @@ use borrow.Author.Tests.{ltb-true, ltb-false, lt-ltb, le-ltb, le-leb, lt-leb}
 use lib.Dec.{leb, ltb}
 use Rattle.answers.specs.Checks.{every}
 use Rattle.answers.proofs.Every.{every-all, every-of}
-use Rattle.answers.proofs.Tests.{both-true}
+use Rattle.answers.proofs.Tests.{both-true, same-test}
 use Rattle.constraints.specs.declared.layout.LineHead.{LineHead}
 use Rattle.constraints.specs.Layout.{Line}
 use Rattle.constraints.specs.Rules.{Types}
 use Rattle.rules.specs.Lines.{slotOk, numbersOk, shapeOk}
-use Rattle.certificate.proofs.Named.{same-test}
 use Rattle.certificate.specs.Slots.{listedOk, unusedOk}
 
 module _ (types : Types) (k m kind count : ℕ) (literal multiplier : ℕ → ℕ) where
@@ -74,17 +73,17 @@ module _ (types : Types) (k m : ℕ) (line : Line) where
 
   pub shape-many : 12 < h .count → false ≡ shapeOk types k m line
   unfolding shapeOk
-  shape-many l = rw (lt-leb (h .count) 12 l, and-false (leb 1 (h .kind) && leb (h .kind) 4))
+  shape-many l = rw (lt-leb (h .count) 12 l, and-false (leb 1 (h .kind) && leb (h .kind) 5))
 
   abbrev numbers : Bool
-  numbers = leb 1 (h .kind) && leb (h .kind) 4 && numbersOk h
+  numbers = leb 1 (h .kind) && leb (h .kind) 5 && numbersOk h
 
   abbrev slots : Bool
   slots = every (slotOk types k m (h .kind) (h .count) (line .literal) (line .multiplier)) 12
 
   few-is : h .count ≤ 12 → (numbers && slots) ≡ shapeOk types k m line
   unfolding shapeOk
-  few-is l = rw (le-leb (h .count) 12 l, and-true (leb 1 (h .kind) && leb (h .kind) 4))
+  few-is l = rw (le-leb (h .count) 12 l, and-true (leb 1 (h .kind) && leb (h .kind) 5))
 
   pub shape-missed : h .count ≤ 12 → numbers ≡ false → false ≡ shapeOk types k m line
   shape-missed l f = sym (sym (few-is l) ∙ rw f)

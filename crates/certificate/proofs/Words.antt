@@ -1,6 +1,7 @@
--- Words of a line's numbers: a multiplier, its negation, and the bound of a constraint's negation.
+-- Words of a line's numbers: a multiplier, its negation, a constraint's bound, and that of its negation.
 -- Assumes nothing.
-use mathlib.Core.Path.{_≡_, _∙_}
+use mathlib.Core.Path.{_≡_, _∙_, ap}
+use mathlib.Core.List.{List}
 use Prim.Native.Nat.{ℕ, _≤_}
 use native.Mathlib.Nat.{lt-of-le-of-lt}
 use native.Mathlib.Omega.{arith}
@@ -13,6 +14,8 @@ use Rattle.integers.proofs.Abs.{abs-fits, abs-negℤ, bound-sub}
 use Rattle.integers.proofs.Reading.{rd}
 use Rattle.integers.proofs.Words.{toZ-ofZ, sfits-negℤ}
 use Rattle.integers.proofs.Small.{small-difference-fits, small-difference}
+use Rattle.constraints.specs.declared.layout.ConstraintHead.{ConstraintHead}
+use Rattle.constraints.specs.Layout.{headAt}
 
 zero-sub : (z : ℤ) → pos 0 -ℤ z ≡ negℤ z
 zero-sub z = +ℤ-idl (negℤ z)
@@ -26,6 +29,11 @@ module _ (n : ℕ) (l : n ≤ 1000000) where
 
   pub negated-word : rd w64 (pos 0 -ℤ toZ w64 n) ≡ negℤ (pos n)
   negated-word = toZ-ofZ negated-fits ∙ rw multiplier-word (zero-sub (pos n))
+
+-- a constraint's bound as it was read
+pub bound-read : (s : List ℕ) (head : ConstraintHead) (p place : ℕ) → SFits w64 (head .bound) → head ≡ headAt s p → p ≡ place
+    → rd w64 (head .bound) ≡ headAt s place .bound
+bound-read s head p place f e g = toZ-ofZ f ∙ ap (λ (h : ConstraintHead). h .bound) e ∙ ap (λ (p : ℕ). headAt s p .bound) g
 
 module _ (b : ℤ) (h : natAbs b ≤ 100000000000) where
   pub minus-fits : SFits w64 (pos 0 -ℤ rd w64 b)

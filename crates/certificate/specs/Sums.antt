@@ -9,6 +9,7 @@ use Rattle.constraints.specs.Layout.{Constraint, Line, usedIn, listedIn, constr
 use Rattle.constraints.specs.Linear.{Form, variable, sameZ}
 use Rattle.literals.specs.Literals.{atomOf, isNegated, isConstraint, constraintNumber}
 use Rattle.rules.specs.Arithmetic.{sumOf}
+use Rattle.rules.specs.Cuts.{isCut, asArithmetic}
 
 -- a number added at a variable
 abbrev pub addAt : List ℤ → (x : ℕ) → ℤ → List ℤ
@@ -29,6 +30,11 @@ sumsAfter constraints line =
     cond (every (λ j. isConstraint (atomOf (line .literal j))) (listedIn line))
     (sumsOf constraints line (listedIn line))
     (replicate 576 (pos 0))
+
+-- .. and after a cut: its sum, less r times the last literal's constraint, where its literals and multipliers are a cut's
+unfoldable pub sumsAfterCut : (ℕ → Constraint) → Line → List ℤ
+sumsAfterCut constraints line =
+    cond (isCut line) (sumsOf constraints (asArithmetic line) (listedIn line)) (replicate 576 (pos 0))
 
 -- the constraints of a file whose first one stands at `start`
 abbrev pub constraintsFrom : List ℕ → (start : ℕ) → ℕ → Constraint

@@ -3,10 +3,11 @@ use crate::sums::add_literals;
 use crate::sums::are_constraints;
 use crate::sums::are_zero;
 use crate::sums::bound_of;
+ghost use Prim.Native.Nat.{ℕ, _<_, _≤_};
 ghost use mathlib.Core.Path.{_≡_};
 ghost use lib.IntN.{pos};
 ghost use lib.ListN.{replicate};
-ghost use Rattle.constraints.specs.Layout.{lineHeadAt, lineAt};
+ghost use Rattle.constraints.specs.Layout.{lineHeadAt, lineAt, multiplierAt};
 ghost use Rattle.rules.specs.Arithmetic.{arithmeticOk};
 ghost use Rattle.certificate.specs.Sums.{constraintsFrom, sumsAfter};
 ghost use Rattle.certificate.specs.Checkable.{Checkable};
@@ -15,6 +16,7 @@ ghost use Rattle.certificate.specs.Checkable.{Checkable};
 // line's after it; those of a line that passes are zero again.
 pub fn arithmetic_ok(sums: &mut [i64], file: &[u8], start: usize, at: usize, count: usize) -> bool
     requires { ⌜ Checkable (now file) start at × (count ≡ lineHeadAt (now file) at .count) ⌝ }
+    requires { ⌜ ((j : ℕ) → j < count → multiplierAt (now file) at j ≤ 1000000) ⌝ }
     requires { ⌜ now sums ≡ replicate 576 (pos 0) ⌝ }
     ensures answer { λ r. ⌜ r ≡ arithmeticOk (constraintsFrom (now (file .entry)) start) (lineAt (now (file .entry)) at) ⌝ }
     ensures sums { λ r. ⌜ now (sums .exit) ≡ sumsAfter (constraintsFrom (now (file .entry)) start) (lineAt (now (file .entry)) at) ⌝ }

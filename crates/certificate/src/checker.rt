@@ -33,7 +33,7 @@ fn parts_verdict(cert: &[u8], f: Frame) -> CertificateVerdict
     CertificateVerdict::Accepted { depth, base, step }
 }
 
-// Rules 16 to 21: lines taken one at a time. One array of sums serves all, since each line that passes leaves it at zero.
+// Rules 16 to 22: lines taken one at a time. One array of sums serves all, since each line that passes leaves it at zero.
 pub fn lines_verdict(node: &[u8], cert: &[u8], types: &[u8], f: Frame) -> CertificateVerdict
     requires { ⌜ Checking (now node) (now cert) f × ((x : ℕ) → typesOf (now types) x ≡ typesOfNode (now node) x) ⌝ }
     ensures { λ r. ⌜ certificateAnswer r ≡ linesVerdict (now (node .entry)) (now (cert .entry)) ⌝ }

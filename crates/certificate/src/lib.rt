@@ -4,6 +4,7 @@ mod bytes;
 mod checker;
 mod constraint_rules;
 mod content;
+mod cuts;
 mod equations;
 mod file_note;
 mod frame;

@@ -1,5 +1,6 @@
 // The rules of one line, 16 before its kind's.
 use crate::arithmetic::arithmetic_ok;
+use crate::cuts::cut_ok;
 use crate::equations::equation_ok;
 use crate::frame::Frame;
 use crate::frame::block_at;
@@ -100,8 +101,12 @@ fn own_fault(
         let ok = join_passes(cert, f, i);
         return unless(ok, refusals::JOIN);
     }
-    let ok = arithmetic_ok(sums, cert, f.start, at, h.count as usize);
-    unless(ok, refusals::ARITHMETIC)
+    if kind == 4 {
+        let ok = arithmetic_ok(sums, cert, f.start, at, h.count as usize);
+        return unless(ok, refusals::ARITHMETIC);
+    }
+    let ok = cut_ok(sums, cert, f.start, at, h);
+    unless(ok, refusals::CUT)
 }
 
 // The number of the first rule that line i breaks, 16 before its kind's, where the lines before it break none; 0 where it breaks

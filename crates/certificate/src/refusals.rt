@@ -22,3 +22,5 @@ pub const JOIN: usize = 19;
 pub const ARITHMETIC: usize = 20;
 // "no empty line; base first, after all lines"
 pub const NO_EMPTY_LINE: usize = 21;
+// "a kind 5 line not as described, multipliers included"
+pub const CUT: usize = 22;

@@ -25,14 +25,14 @@ fn names_atom(types: &[u8], k: u8, m: usize, atom: usize) -> bool
     (atom / 64 <= (k as usize)) & (its_type == 0)
 }
 
-// A listed literal's multiplier: from 1 to 1,000,000 in an arithmetic line, 0 in any other.
-fn is_multiplier(kind: u8, multiplier: u32) -> bool
+// A listed literal's multiplier: from 1 to 1,000,000 in an arithmetic line, any in a cut (rule 22 looks at it), 0 in any other.
+pub fn is_multiplier(kind: u8, multiplier: u32) -> bool
     ensures { λ r. ⌜ r ≡ multiplierOk kind multiplier ⌝ }
 {
     if kind == 4 {
         (1 <= multiplier) & (multiplier <= 1000000)
     } else {
-        multiplier == 0
+        (kind == 5) | (multiplier == 0)
     }
 }
 
@@ -95,8 +95,8 @@ fn are_numbers(h: LineHead) -> bool
     ensures { λ r. ⌜ r ≡ numbersOk h ⌝ }
 {
     ((h.kind == 1) | (h.kind == 3) | (h.p == 0))
-        & (!(h.kind == 4) | (h.q == 0))
-        & ((h.kind == 1) | (h.kind == 3) | (h.r == 0))
+        & ((h.kind <= 3) | (h.q == 0))
+        & ((h.kind == 1) | (h.kind == 3) | (h.kind == 5) | (h.r == 0))
 }
 
 // Rule 16, of the line at an offset whose head was read.
@@ -107,7 +107,7 @@ pub fn shape_ok(file: &[u8], at: usize, h: LineHead, types: &[u8], k: u8, m: usi
     if 12 < h.count {
         return false;
     }
-    if !((1 <= h.kind) & (h.kind <= 4) & are_numbers(h)) {
+    if !((1 <= h.kind) & (h.kind <= 5) & are_numbers(h)) {
         return false;
     }
     are_slots(file, at, h, types, k, m)

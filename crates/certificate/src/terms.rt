@@ -16,7 +16,7 @@ ghost use Rattle.certificate.specs.Sums.{addForm, placeOf, factorOf, opp
 ghost use Rattle.certificate.specs.Checkable.{Summable, Usable};
 
 // A multiplier, or its negation, times a coefficient or a bound: it fits.
-fn product(factor: i64, n: i64) -> i64
+pub fn product(factor: i64, n: i64) -> i64
     requires { ⌜ (natAbs factor ≤ 1000000) × (natAbs n ≤ 200000000000) ⌝ }
     ensures { λ r. ⌜ r ≡ factor *ℤ n ⌝ }
 {

@@ -23,6 +23,27 @@ module _ (w : ℕ → ℤ) where
   total-scaled z (m ∷ ms) =
       rw (total-scaled z ms, *ℤ-assoc z (m .times) (w (m .of))) (sym (*ℤ-distl z (m .times *ℤ w (m .of)) (total ms w)))
 
+-- ---- the coefficient at a variable, of a sum and of a multiple
+
+cond-plus : (t : Bool) (a b c : ℤ) → cond t (a +ℤ (b +ℤ c)) (b +ℤ c) ≡ cond t (a +ℤ b) b +ℤ c
+cond-plus true a b c = sym (+ℤ-assoc a b c)
+cond-plus false a b c = refl
+
+cond-times : (t : Bool) (z a b : ℤ) → cond t (z *ℤ a +ℤ z *ℤ b) (z *ℤ b) ≡ z *ℤ cond t (a +ℤ b) b
+cond-times true z a b = sym (*ℤ-distl z a b)
+cond-times false z a b = refl
+
+module _ (x : ℕ) where
+  pub coefficient-append : (f g : Form) → coefficient (f ++ g) x ≡ coefficient f x +ℤ coefficient g x
+  coefficient-append [] g = sym (+ℤ-idl (coefficient g x))
+  coefficient-append (m ∷ ms) g =
+      rw (coefficient-append ms g) (cond-plus (eqb (m .of) x) (m .times) (coefficient ms x) (coefficient g x))
+
+  pub coefficient-scaled : (z : ℤ) (f : Form) → coefficient (scaled z f) x ≡ z *ℤ coefficient f x
+  coefficient-scaled z [] = sym (*ℤ-zero z)
+  coefficient-scaled z (m ∷ ms) =
+      rw (coefficient-scaled z ms) (cond-times (eqb (m .of) x) z (m .times) (coefficient ms x))
+
 -- the coefficients of the variables below n, each times its value
 abbrev pub dot : (ℕ → ℤ) → (n : ℕ) → (ℕ → ℤ) → ℤ
 dot a zero w = pos 0

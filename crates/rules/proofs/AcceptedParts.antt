@@ -8,10 +8,11 @@ use Prim.Native.Nat.{ℕ, _<_, _≤_}
 use native.Mathlib.Omega.{arith}
 use Rattle.node.specs.Layout.{propertyOf}
 use Rattle.streams.specs.Nodes.{nodeOf}
-use Rattle.constraints.specs.Layout.{Line, trailerOf, constraintOf, lineOf}
+use Rattle.constraints.specs.Layout.{Line, usedIn, listedIn, trailerOf, constraintOf, lineOf}
 use Rattle.constraints.proofs.Blocks.{listed-within}
-use Rattle.literals.specs.Literals.{atomOf, constraintNumber}
+use Rattle.literals.specs.Literals.{atomOf, isConstraint, constraintNumber}
 use Rattle.rules.specs.Joins.{joinOk}
+use Rattle.rules.specs.Limited.{Named}
 use Rattle.rules.specs.Lines.{Window, hasEmpty}
 use Rattle.rules.specs.Outcome.{CertificateRules}
 use Rattle.rules.specs.Verdict.{typesOfNode, linesOf, windowOf, baseOf, stepOf, shapePasses}
@@ -23,6 +24,7 @@ use Rattle.rules.proofs.LineParts.{part-base, part-step, from-is}
 use Rattle.rules.proofs.ShapeFacts.{ShapeFacts, shape-facts}
 use Rattle.rules.proofs.ArithmeticLines.{arithmetic-satisfied}
 use Rattle.rules.proofs.CertificateFacts.{constraint-limited}
+use Rattle.rules.proofs.Cuts.{cut-facts, all-on, cut-satisfied, accepted as cut-accepted}
 use Rattle.rules.proofs.EquationLines.{equation-satisfied}
 use Rattle.rules.proofs.Parts.{Premises, refuted}
 
@@ -45,16 +47,27 @@ module _ (node cert : List ℕ) (rules : CertificateRules node cert) where
   unfolding shapePasses
   shape i l = shape-facts (typesOfNode node) (trailerOf cert .depth) (trailerOf cert .constraints) (lineOf cert i) (rules .shapes i l)
 
+  -- the constraint of a line's literal names variables
+  named : (i : ℕ) → i < linesOf cert → (j : ℕ) → j < listedIn (lineOf cert i) → isConstraint (atomOf (lineOf cert i .literal j)) ≡ true
+      → let c = constraintOf cert (constraintNumber (atomOf (lineOf cert i .literal j))) in Named c (usedIn c)
+  named i l j m on =
+      let line = lineOf cert i in
+      let atom = atomOf (line .literal j) in
+      let below = names-constraint (typesOfNode node) (trailerOf cert .depth) (trailerOf cert .constraints) atom (shape i l .atoms j (omega (arith, listed-within line))) on in
+      constraint-limited node cert rules (constraintNumber atom) below .variables
+
   arithmetic-line : (w : Valuation) (i : ℕ) → i < linesOf cert → lineOf cert i .head .kind ≡ 4 → Satisfies (constraintOf cert) w (lineOf cert i)
   arithmetic-line w i l kind =
-      let line = lineOf cert i in
       let passes = rules .arithmetic i l kind in
-      arithmetic-satisfied (constraintOf cert) w line passes
-      (λ j m.
-      let atom = atomOf (line .literal j) in
-      let on = accepted (constraintOf cert) line passes .on-constraints j m in
-      let below = names-constraint (typesOfNode node) (trailerOf cert .depth) (trailerOf cert .constraints) atom (shape i l .atoms j (omega (arith, listed-within line))) on in
-      constraint-limited node cert rules (constraintNumber atom) below .variables)
+      arithmetic-satisfied (constraintOf cert) w (lineOf cert i) passes
+      (λ j m. named i l j m (accepted (constraintOf cert) (lineOf cert i) passes .on-constraints j m))
+
+  cut-line : (w : Valuation) (i : ℕ) → i < linesOf cert → lineOf cert i .head .kind ≡ 5 → Satisfies (constraintOf cert) w (lineOf cert i)
+  cut-line w i l kind =
+      let passes = rules .cuts i l kind in
+      let told = cut-facts (lineOf cert i) (cut-accepted (constraintOf cert) (lineOf cert i) passes .cut) in
+      cut-satisfied (constraintOf cert) w (lineOf cert i) passes
+      (λ j m. named i l j m (all-on (constraintOf cert) (lineOf cert i) told j m))
 
   module _ (part : Window) (p : IsPart node cert part) (w : Valuation) where
     premises :
@@ -80,6 +93,7 @@ module _ (node cert : List ℕ) (rules : CertificateRules node cert) where
               (sym (from-is cert (propertyOf node) i) ∙ ap (λ (v : Window). v .from) (p .is i l m))
               (rules .joins i (listed i m) kind);
           arithmetic = λ i l m kind. arithmetic-line w i (listed i m) kind;
+          cuts = λ i l m kind. cut-line w i (listed i m) kind;
         }
 
     pub part-refuted :

@@ -8,8 +8,10 @@ pub mod ClausesNamed
 pub mod ConstraintLimits
 pub mod Contents
 pub mod Contradiction
+pub mod Cuts
 pub mod EquationLines
 pub mod FileFacts
+pub mod Floors
 pub mod Joins
 pub mod LineFaults
 pub mod LineParts

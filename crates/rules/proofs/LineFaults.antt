@@ -9,13 +9,13 @@ use lib.Dec.{eqb}
 use Rattle.answers.specs.declared.Place.the-variants.{Line as AtLine}
 use Rattle.constraints.specs.Layout.{lineOf}
 use Rattle.rules.specs.Lines.{unless, ofKind, kindFault}
-use Rattle.rules.specs.Outcome.{LineMet, KindMet, FirstFailure, at-16, at-17, at-18, at-19, at-20}
-use Rattle.rules.specs.Verdict.{shapePasses, equationPasses, propertyPasses, joinPasses, arithmeticPasses, lineFault, linePasses}
+use Rattle.rules.specs.Outcome.{LineMet, KindMet, FirstFailure, at-16, at-17, at-18, at-19, at-20, at-22}
+use Rattle.rules.specs.Verdict.{shapePasses, equationPasses, propertyPasses, joinPasses, arithmeticPasses, cutPasses, lineFault, linePasses}
 
 -- the number of a kind, where it breaks its rule
-module _ (kind : ℕ) (equation property join arithmetic : Bool) where
+module _ (kind : ℕ) (equation property join arithmetic cut : Bool) where
   abbrev fault : ℕ
-  fault = kindFault kind equation property join arithmetic
+  fault = kindFault kind equation property join arithmetic cut
 
   pub fault-1 : kind ≡ 1 → fault ≡ cond equation 0 17
   unfolding kindFault
@@ -32,6 +32,10 @@ module _ (kind : ℕ) (equation property join arithmetic : Bool) where
   pub fault-4 : kind ≡ 4 → fault ≡ cond arithmetic 0 20
   unfolding kindFault
   fault-4 k = rw k
+
+  pub fault-5 : kind ≡ 5 → fault ≡ cond cut 0 22
+  unfolding kindFault
+  fault-5 k = rw k
 
 by-unless : (P : ℕ → Type 0) (ok : Bool) (number rest : ℕ) → (ok ≡ false → P number) → (ok ≡ true → P rest) → P (unless ok number rest)
 by-unless P true number rest f g = g refl
@@ -65,6 +69,7 @@ module _ (node cert : List ℕ) (i : ℕ) where
     pub property : kindOf ≡ 2 → propertyPasses node cert i ≡ true
     pub join : kindOf ≡ 3 → joinPasses cert i ≡ true
     pub arithmetic : kindOf ≡ 4 → arithmeticPasses cert i ≡ true
+    pub cut : kindOf ≡ 5 → cutPasses cert i ≡ true
 
   -- the tests in a row
   by-line : (P : ℕ → Type 0)
@@ -73,23 +78,32 @@ module _ (node cert : List ℕ) (i : ℕ) where
       → (shapePasses node cert i ≡ true → ofKind kindOf 2 (propertyPasses node cert i) ≡ false → P 18)
       → (shapePasses node cert i ≡ true → ofKind kindOf 3 (joinPasses cert i) ≡ false → P 19)
       → (shapePasses node cert i ≡ true → ofKind kindOf 4 (arithmeticPasses cert i) ≡ false → P 20)
+      → (shapePasses node cert i ≡ true → ofKind kindOf 5 (cutPasses cert i) ≡ false → P 22)
       → (shapePasses node cert i ≡ true → KindRules → P 0)
       → P (lineFault node cert i)
   unfolding lineFault kindFault
-  by-line P s e p j a none =
+  by-line P s e p j a c none =
       by-unless P (shapePasses node cert i) 16 _ s λ shape.
       by-unless P (ofKind kindOf 1 (equationPasses node cert i)) 17 _ (e shape) λ e1.
       by-unless P (ofKind kindOf 2 (propertyPasses node cert i)) 18 _ (p shape) λ e2.
       by-unless P (ofKind kindOf 3 (joinPasses cert i)) 19 _ (j shape) λ e3.
       by-unless P (ofKind kindOf 4 (arithmeticPasses cert i)) 20 _ (a shape) λ e4.
+      by-unless P (ofKind kindOf 5 (cutPasses cert i)) 22 _ (c shape) λ e5.
       none shape
-      (record { equation = kept kindOf 1 _ e1; property = kept kindOf 2 _ e2; join = kept kindOf 3 _ e3; arithmetic = kept kindOf 4 _ e4 })
+      (record {
+        equation = kept kindOf 1 _ e1;
+        property = kept kindOf 2 _ e2;
+        join = kept kindOf 3 _ e3;
+        arithmetic = kept kindOf 4 _ e4;
+        cut = kept kindOf 5 _ e5;
+      })
 
   -- what a line keeps that breaks none
   pub line-kept : linePasses node cert i ≡ true → (shapePasses node cert i ≡ true) × KindRules
   line-kept =
       by-line (λ n. eqb n 0 ≡ true → (shapePasses node cert i ≡ true) × KindRules) (λ _ z. absurd (false≢true z))
       (λ _ _ z. absurd (false≢true z)) (λ _ _ z. absurd (false≢true z)) (λ _ _ z. absurd (false≢true z)) (λ _ _ z. absurd (false≢true z))
+      (λ _ _ z. absurd (false≢true z))
       (λ s r _. (s, r))
 
   pub line-passes : shapePasses node cert i ≡ true → KindRules → linePasses node cert i ≡ true
@@ -99,6 +113,7 @@ module _ (node cert : List ℕ) (i : ℕ) where
       (λ _ f. absurd (false≢true (sym f ∙ keeps kindOf 2 _ (r .property))))
       (λ _ f. absurd (false≢true (sym f ∙ keeps kindOf 3 _ (r .join))))
       (λ _ f. absurd (false≢true (sym f ∙ keeps kindOf 4 _ (r .arithmetic))))
+      (λ _ f. absurd (false≢true (sym f ∙ keeps kindOf 5 _ (r .cut))))
       (λ _ _. refl)
 
   -- what the number says of a line that breaks one
@@ -109,6 +124,7 @@ module _ (node cert : List ℕ) (i : ℕ) where
       (λ s f _. at-18 (of s (breaks kindOf 2 _ f .0)) (breaks kindOf 2 _ f .1))
       (λ s f _. at-19 (of s (breaks kindOf 3 _ f .0)) (breaks kindOf 3 _ f .1))
       (λ s f _. at-20 (of s (breaks kindOf 4 _ f .0)) (breaks kindOf 4 _ f .1))
+      (λ s f _. at-22 (of s (breaks kindOf 5 _ f .0)) (breaks kindOf 5 _ f .1))
       (λ _ _ z. absurd (false≢true (sym z)))
     where
       of : {kind : ℕ} → shapePasses node cert i ≡ true → kindOf ≡ kind → KindMet node cert i kind

@@ -43,6 +43,7 @@ module _ (node cert : List ℕ) where
           properties = λ i l k. kept lines i l .1 .property k;
           joins = λ i l k. kept lines i l .1 .join k;
           arithmetic = λ i l k. kept lines i l .1 .arithmetic k;
+          cuts = λ i l k. kept lines i l .1 .cut k;
           base-ends = e21;
           step-ends = e22;
         },
@@ -108,6 +109,7 @@ module _ (node cert : List ℕ) where
         property = r .properties i l;
         join = r .joins i l;
         arithmetic = r .arithmetic i l;
+        cut = r .cuts i l;
       } in
       line-passes node cert i (r .shapes i l) rules
 

@@ -1,5 +1,5 @@
--- A part with an empty line refutes its premises: where a window satisfies the part's equation, property and arithmetic lines, it
--- satisfies every line of the part, and no window satisfies a line without literals. The argument is one for base and step.
+-- A part with an empty line refutes its premises: where a window satisfies the part's equation, property and arithmetic lines and
+-- its cuts, it satisfies every line of the part, and no window satisfies a line without literals. The argument is one for base and step.
 -- Assumes nothing.
 use mathlib.Core.Path.{_≡_, refl, sym, _∙_}
 use mathlib.Core.Bool.{Bool, true, false, not, _&&_, false≢true}
@@ -17,20 +17,22 @@ use Rattle.rules.specs.Lines.{Window, hasLiterals, hasEmpty}
 use Rattle.rules.specs.Satisfaction.{Valuation, Satisfies}
 use Rattle.rules.proofs.Joins.{joined}
 
--- a line's four kinds
-by-kind : {A : Type 0} (kind : ℕ) → 1 ≤ kind → kind ≤ 4
-    → (kind ≡ 1 → A) → (kind ≡ 2 → A) → (kind ≡ 3 → A) → (kind ≡ 4 → A) → A
-by-kind {A} kind least most one two three four = go (eqb kind 1) (eqb kind 2) (eqb kind 3) refl refl refl
+-- past a number that it is not
+past : (n kind : ℕ) → n ≤ kind → eqb kind n ≡ false → suc n ≤ kind
+past n kind least e = let other = eqb-false kind n e in omega (arith, other)
+
+-- a line's five kinds
+by-kind : {A : Type 0} (kind : ℕ) → 1 ≤ kind → kind ≤ 5
+    → (kind ≡ 1 → A) → (kind ≡ 2 → A) → (kind ≡ 3 → A) → (kind ≡ 4 → A) → (kind ≡ 5 → A) → A
+by-kind {A} kind least most one two three four five = go (eqb kind 1) (eqb kind 2) (eqb kind 3) (eqb kind 4) refl refl refl refl
   where
-    go : (a b c : Bool) → eqb kind 1 ≡ a → eqb kind 2 ≡ b → eqb kind 3 ≡ c → A
-    go true b c e f g = one (eqb-true kind 1 e)
-    go false true c e f g = two (eqb-true kind 2 f)
-    go false false true e f g = three (eqb-true kind 3 g)
-    go false false false e f g =
-        let not-one = eqb-false kind 1 e in
-        let not-two = eqb-false kind 2 f in
-        let not-three = eqb-false kind 3 g in
-        four (omega (arith, not-one, not-two, not-three))
+    go : (a b c d : Bool) → eqb kind 1 ≡ a → eqb kind 2 ≡ b → eqb kind 3 ≡ c → eqb kind 4 ≡ d → A
+    go true b c d e f g h = one (eqb-true kind 1 e)
+    go false true c d e f g h = two (eqb-true kind 2 f)
+    go false false true d e f g h = three (eqb-true kind 3 g)
+    go false false false true e f g h = four (eqb-true kind 4 h)
+    go false false false false e f g h =
+        five (omega (arith, past 4 kind (past 3 kind (past 2 kind (past 1 kind least e) f) g) h))
 
 -- a test that holds of each of the first n
 each-every : (ok : ℕ → Bool) (n : ℕ) → ((k : ℕ) → k < n → ok k ≡ true) → every ok n ≡ true
@@ -78,11 +80,12 @@ module _ (constraints : ℕ → Constraint) (lines : ℕ → Line) (part : Windo
   -- the window satisfies the part's lines, but for the joins, which keep rule 19
   pub record Premises : Type 0 where
     pub least : (i : ℕ) → part .from ≤ i → i < part .until → 1 ≤ lines i .head .kind
-    pub most : (i : ℕ) → part .from ≤ i → i < part .until → lines i .head .kind ≤ 4
+    pub most : (i : ℕ) → part .from ≤ i → i < part .until → lines i .head .kind ≤ 5
     pub equations : OfKind 1 (λ i. Satisfies constraints w (lines i))
     pub properties : OfKind 2 (λ i. Satisfies constraints w (lines i))
     pub joins : OfKind 3 (λ i. joinOk lines (part .from) i ≡ true)
     pub arithmetic : OfKind 4 (λ i. Satisfies constraints w (lines i))
+    pub cuts : OfKind 5 (λ i. Satisfies constraints w (lines i))
 
   module _ (given : Premises) where
     -- every line of the part, by its number: a join is of lower lines
@@ -98,6 +101,7 @@ module _ (constraints : ℕ → Constraint) (lines : ℕ → Line) (part : Windo
         (satisfied-to n (lines i .head .p) (omega (arith, f .p-lower)) (f .p-part) (omega (arith, f .p-lower)))
         (satisfied-to n (lines i .head .q) (omega (arith, f .q-lower)) (f .q-part) (omega (arith, f .q-lower))))
         (given .arithmetic i from until)
+        (given .cuts i from until)
 
     all-have-literals : every (hasLiterals lines (part .from)) (part .until - part .from) ≡ true
     all-have-literals =

@@ -11,6 +11,10 @@ use Rattle.constraints.specs.Layout.{Constraint, Line, listedIn}
 use Rattle.constraints.specs.Linear.{Bounded, coefficient, scaled, negated, boundedOf, sameZ}
 use Rattle.literals.specs.Literals.{atomOf, isNegated, isConstraint, constraintNumber}
 
+-- "their multipliers (1 to 1,000,000)"
+abbrev pub isMultiplier : ℕ → Bool
+isMultiplier m = leb 1 m && leb m 1000000
+
 -- what the opposite of a literal on a constraint says: the constraint where the literal is negated, else its negation
 abbrev pub oppositeSays : (ℕ → Constraint) → (literal : ℕ) → Bounded
 oppositeSays constraints l =

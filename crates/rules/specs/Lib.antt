@@ -1,5 +1,6 @@
 pub mod Arithmetic
 pub mod Clauses
+pub mod Cuts
 pub mod Joins
 pub mod Limited
 pub mod Lines

@@ -1,4 +1,4 @@
--- The conditions 16 to 18 and 21 of "Where each refusal is met", and which of 17 to 20 a line of a kind breaks.
+-- The conditions 16 to 18 and 21 of "Where each refusal is met", and which of 17 to 20 and 22 a line of a kind breaks.
 use Prim.Native.Nat.{ℕ, _+_, _-_}
 use mathlib.Core.Bool.{Bool, false, cond, not, _&&_, _||_}
 use lib.Dec.{leb, ltb, eqb}
@@ -14,14 +14,15 @@ use Rattle.rules.specs.declared.pattern.Named.{Named}
 use Rattle.rules.specs.declared.pattern.Named.the-variants.{Is, Missing}
 use Rattle.rules.specs.declared.pattern.Position.{Position}
 use Rattle.rules.specs.declared.pattern.Position.the-variants.{Opening, Unsure, Inner}
+use Rattle.rules.specs.Arithmetic.{isMultiplier}
 use Rattle.rules.specs.Clauses.{clauses, numbered}
 use Rattle.literals.specs.Literals.{positive, negative, atomOf}
 use Rattle.rules.specs.Literals.{namesAtom}
 use Rattle.rules.specs.Matching.{matchesOf}
 
--- a line as the rules see it: what kind 4 uses of multipliers, all other kinds leave at zero
+-- the multiplier of a listed literal: kinds 4 and 5 use it, and 22 takes "multipliers included"; the other kinds leave it at zero
 abbrev pub multiplierOk : (kind multiplier : ℕ) → Bool
-multiplierOk kind m = cond (eqb kind 4) (leb 1 m && leb m 1000000) (eqb m 0)
+multiplierOk kind m = cond (eqb kind 4) (isMultiplier m) (eqb kind 5 || eqb m 0)
 
 -- literal and multiplier j of a line: listed ones name an atom, the rest are zero
 unfoldable pub slotOk : Types → (k m kind count : ℕ) → (literal multiplier : ℕ → ℕ) → (j : ℕ) → Bool
@@ -29,18 +30,18 @@ slotOk types k m kind count literal multiplier j =
     cond (leb count j) (eqb (literal j) 0 && eqb (multiplier j) 0)
     (namesAtom types k m (atomOf (literal j)) && multiplierOk kind (multiplier j))
 
--- "What its kind and count don't use is zero": kind 1 and 3 use p, q and r, kind 2 uses q, kind 4 none
+-- "What its kind and count don't use is zero": kind 1 and 3 use p, q and r, kind 2 uses q, kind 4 none, kind 5 uses r
 unfoldable pub numbersOk : LineHead → Bool
 numbersOk h =
     (eqb (h .kind) 1 || eqb (h .kind) 3 || eqb (h .p) 0)
-    && (not (eqb (h .kind) 4) || eqb (h .q) 0)
-    && (eqb (h .kind) 1 || eqb (h .kind) 3 || eqb (h .r) 0)
+    && (leb (h .kind) 3 || eqb (h .q) 0)
+    && (eqb (h .kind) 1 || eqb (h .kind) 3 || eqb (h .kind) 5 || eqb (h .r) 0)
 
 -- 16: kind, count, listed literal naming no atom, kind 4 multiplier, unused field not 0
 unfoldable pub shapeOk : Types → (k m : ℕ) → Line → Bool
 shapeOk types k m line =
     leb 1 (line .head .kind)
-    && leb (line .head .kind) 4
+    && leb (line .head .kind) 5
     && leb (line .head .count) 12
     && numbersOk (line .head)
     && every (slotOk types k m (line .head .kind) (line .head .count) (line .literal) (line .multiplier)) 12
@@ -131,11 +132,13 @@ unless ok number rest = cond ok rest number
 abbrev pub ofKind : (kind its : ℕ) → (ok : Bool) → Bool
 ofKind kind its ok = not (eqb kind its) || ok
 
--- 17, 18, 19, 20: "kind 1, 2, 3, 4 not as above", as the number of the rule that a line of a kind breaks, 0 where it breaks none
-unfoldable pub kindFault : (kind : ℕ) → (equation property join arithmetic : Bool) → ℕ
-kindFault kind equation property join arithmetic =
+-- 17, 18, 19, 20: "kind 1, 2, 3, 4 not as above"; "22, a kind 5 line not as described": the number of the rule that a line of a kind
+-- breaks, 0 where it breaks none
+unfoldable pub kindFault : (kind : ℕ) → (equation property join arithmetic cut : Bool) → ℕ
+kindFault kind equation property join arithmetic cut =
     unless (ofKind kind 1 equation) 17
-    (unless (ofKind kind 2 property) 18 (unless (ofKind kind 3 join) 19 (unless (ofKind kind 4 arithmetic) 20 0)))
+    (unless (ofKind kind 2 property) 18
+    (unless (ofKind kind 3 join) 19 (unless (ofKind kind 4 arithmetic) 20 (unless (ofKind kind 5 cut) 22 0))))
 
 -- line i of those from `from` on has literals
 abbrev pub hasLiterals : (ℕ → Line) → (from i : ℕ) → Bool

@@ -14,7 +14,7 @@ use Rattle.node.specs.Rules.{lengthOk}
 use Rattle.constraints.specs.Layout.{trailerOf, lineOf}
 use Rattle.constraints.specs.Rules.{fixedOk, countsOk, distanceOk}
 use Rattle.rules.specs.Lines.{hasEmpty}
-use Rattle.rules.specs.Verdict.{baseOf, stepOf, linesOf, valuesOf, constraintPasses, shapePasses, equationPasses, propertyPasses, joinPasses, arithmeticPasses, linePasses}
+use Rattle.rules.specs.Verdict.{baseOf, stepOf, linesOf, valuesOf, constraintPasses, shapePasses, equationPasses, propertyPasses, joinPasses, arithmeticPasses, cutPasses, linePasses}
 
 -- 11 to 14
 pub record FileRules (cert : List ℕ) : Type 0 where
@@ -44,6 +44,7 @@ pub record CertificateRules (node cert : List ℕ) : Type 0 where
   pub properties : KindKeeps cert 2 (propertyPasses node cert)  -- 18
   pub joins : KindKeeps cert 3 (joinPasses cert)  -- 19
   pub arithmetic : KindKeeps cert 4 (arithmeticPasses cert)  -- 20
+  pub cuts : KindKeeps cert 5 (cutPasses cert)  -- 22
   pub base-ends : hasEmpty (lineOf cert) (baseOf node cert) ≡ true  -- 21, the base
   pub step-ends : hasEmpty (lineOf cert) (stepOf node cert) ≡ true  -- 21, the step
 
@@ -78,6 +79,7 @@ pub data FirstFailure (node cert : List ℕ) : (number : ℕ) → Place → Type
   at-18 : {i : ℕ} → KindMet node cert i 2 → propertyPasses node cert i ≡ false → FirstFailure node cert 18 (AtLine i)
   at-19 : {i : ℕ} → KindMet node cert i 3 → joinPasses cert i ≡ false → FirstFailure node cert 19 (AtLine i)
   at-20 : {i : ℕ} → KindMet node cert i 4 → arithmeticPasses cert i ≡ false → FirstFailure node cert 20 (AtLine i)
+  at-22 : {i : ℕ} → KindMet node cert i 5 → cutPasses cert i ≡ false → FirstFailure node cert 22 (AtLine i)
   at-21-base : BeforeLines node cert → LinesKeep cert (linePasses node cert) → hasEmpty (lineOf cert) (baseOf node cert) ≡ false → FirstFailure node cert 21 Base
   at-21-step : BeforeLines node cert → LinesKeep cert (linePasses node cert) → hasEmpty (lineOf cert) (baseOf node cert) ≡ true → hasEmpty (lineOf cert) (stepOf node cert) ≡ false → FirstFailure node cert 21 Step
 

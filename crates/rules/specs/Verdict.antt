@@ -17,6 +17,7 @@ use Rattle.constraints.specs.Layout.{trailerOf, constraintOf, lineOf}
 use Rattle.constraints.specs.Rules.{Types, fixedOk, countsOk, distanceOk, constraintOk}
 use Rattle.rules.specs.Types.{typesBelow}
 use Rattle.rules.specs.Arithmetic.{arithmeticOk}
+use Rattle.rules.specs.Cuts.{cutOk}
 use Rattle.rules.specs.Joins.{joinOk}
 use Rattle.rules.specs.Lines.{Streams, Window, baseWindow, stepWindow, shapeOk, equationOk, unless, kindFault, hasEmpty}
 
@@ -78,10 +79,14 @@ joinPasses cert i = joinOk (lineOf cert) (firstLine cert i) i
 abbrev pub arithmeticPasses : (cert : List ℕ) → (i : ℕ) → Bool
 arithmeticPasses cert i = arithmeticOk (constraintOf cert) (lineOf cert i)
 
+-- rule 22, of line i
+abbrev pub cutPasses : (cert : List ℕ) → (i : ℕ) → Bool
+cutPasses cert i = cutOk (constraintOf cert) (lineOf cert i)
+
 -- the number of its kind's rule, where line i breaks it, else 0
 abbrev pub ownFault : (node cert : List ℕ) → (i : ℕ) → ℕ
 ownFault node cert i =
-    kindFault (lineOf cert i .head .kind) (equationPasses node cert i) (propertyPasses node cert i) (joinPasses cert i) (arithmeticPasses cert i)
+    kindFault (lineOf cert i .head .kind) (equationPasses node cert i) (propertyPasses node cert i) (joinPasses cert i) (arithmeticPasses cert i) (cutPasses cert i)
 
 -- "lines are taken one at a time, 16 before its kind's number": the number of the first rule that line i breaks, 0 where it breaks
 -- none
@@ -108,7 +113,7 @@ partsVerdict node cert =
     (check (hasEmpty (lineOf cert) (stepOf node cert)) 21 Step
     (accepted (valuesOf cert)))
 
--- the checks of lines and parts: 16 to 21
+-- the checks of lines and parts: 16 to 20 and 22, then 21
 unfoldable pub linesVerdict : (node cert : List ℕ) → Answer CertificateValues
 linesVerdict node cert =
     checkLines (lowest (linePasses node cert) (linesOf cert)) (lineFault node cert) (partsVerdict node cert)

@@ -9,12 +9,13 @@ use lib.ListN.{length, length-replicate}
 use mir.Syntax.{w64}
 use mir.Val.{SFits}
 use mir.Facts.{toZ-ofZ}
+use Rattle.answers.proofs.Every.{every-all}
 use Rattle.constraints.specs.Layout.{Constraint, Line, lineAt, listedIn}
 use Rattle.constraints.proofs.Blocks.{listed-is}
 use Rattle.certificate.specs.Sums.{constraintsFrom, sumsOf}
 use Rattle.certificate.specs.Checkable.{Usable}
 use Rattle.certificate.proofs.Adding.{length-sums}
-use Rattle.certificate.proofs.Deciding.{ends-none, ends-other, ends, after-none, after-other, after-all, each-usable}
+use Rattle.certificate.proofs.Deciding.{ends-none, ends-other, ends, after-none, after-other, after-all, usable}
 use Rattle.certificate.proofs.arithmetic.arithmetic_ok.Statement.{statement}
 use Rattle.certificate.proofs.arithmetic.arithmetic_ok.Tie as tie
 
@@ -34,7 +35,7 @@ returns : tie.Need-returns
 returns c =
     let s = c .before .before in (
       ends-none (constraints s) (line s) _ (listed s) (c .if1 .taken),
-      s .pre .1 ∙ after-none (constraints s) (line s) _ (listed s) (c .if1 .taken),
+      s .pre .1 .1 ∙ after-none (constraints s) (line s) _ (listed s) (c .if1 .taken),
     )
 
 are-constraints-requires : tie.Need-are-constraints-requires
@@ -45,20 +46,22 @@ returns-2 c =
     let s = c .before .before .before .before in
     let other = sym (c .before .are-constraints .ensures) ∙ not-true _ (c .if2 .taken) in (
       ends-other (constraints s) (line s) _ (listed s) (c .before .before .if1 .left) other,
-      s .pre .1 ∙ after-other (constraints s) (line s) _ (listed s) other,
+      s .pre .1 .1 ∙ after-other (constraints s) (line s) _ (listed s) other,
     )
 
 -- where all literals are on constraints, each is usable
-usable : (c : tie.Else2) → let a = c .before .before .before .before .args in (j : ℕ) → j < a .count → Usable (a .file .now) (a .start) (a .at) j
-usable c =
+each-usable : (c : tie.Else2) → let a = c .before .before .before .before .args in (j : ℕ) → j < a .count → Usable (a .file .now) (a .start) (a .at) j
+each-usable c j l =
     let s = c .before .before .before .before in
-    each-usable _ _ _ _ (s .pre .0 .0) (s .pre .0 .1) (sym (c .before .are-constraints .ensures) ∙ not-false _ (c .if2 .left))
+    usable _ _ _ _ (s .pre .0 .0) (s .pre .0 .1) j l
+    (every-all _ _ (sym (c .before .are-constraints .ensures) ∙ not-false _ (c .if2 .left)) j l)
+    (s .pre .1 .0 j l)
 
 add-literals-requires : tie.Need-add-literals-requires
-add-literals-requires c κs = let s = c .before .before .before .before .before in (few s, (usable (c .before), s .pre .1))
+add-literals-requires c κs = let s = c .before .before .before .before .before in (few s, (each-usable (c .before), s .pre .1 .1))
 
 bound-of-requires : tie.Need-bound-of-requires
-bound-of-requires c κs = (few (c .before .before .before .before .before .before .before), usable (c .before .before .before))
+bound-of-requires c κs = (few (c .before .before .before .before .before .before .before), each-usable (c .before .before .before))
 
 -- the sums as they were lent back
 lent-length : (c : tie.After-add-literals) → length (c .add-literals .last .0) ≡ 576
@@ -69,12 +72,12 @@ lent-length c =
 are-zero-requires : tie.Need-are-zero-requires
 are-zero-requires c κs =
     let lent = c .before .before .before in
-    (lent-length lent, usable (lent .before .before))
+    (lent-length lent, each-usable (lent .before .before))
 
 same-length : tie.Need-same-length
 same-length c =
     let lent = c .before .before .before .before in
-    lent-length lent ∙ sym (ap length (lent .before .before .before .before .before .before .pre .1) ∙ length-replicate 576 (pos 0))
+    lent-length lent ∙ sym (ap length (lent .before .before .before .before .before .before .pre .1 .1) ∙ length-replicate 576 (pos 0))
 
 returns-3 : tie.Need-returns-3
 returns-3 c =
@@ -92,7 +95,7 @@ returns-3 c =
           (bound .bound-of .result)
           (lent .add-literals .ensures)
           (bound .bound-of .ensures)
-          (λ j l. usable on j l .summable .limited .variables)),
+          (λ j l. each-usable on j l .summable .limited .variables)),
       lent .add-literals .ensures ∙ after-all (constraints s) (line s) (s .args .count) (listed s) all,
     )
 

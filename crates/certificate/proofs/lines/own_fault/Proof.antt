@@ -2,14 +2,15 @@
 -- Assumes nothing.
 use mathlib.Core.Path.{_≡_, refl, sym, _∙_, ap}
 use mathlib.Core.Bool.{Bool, true, false, cond}
-use Prim.Native.Nat.{ℕ}
+use Prim.Native.Nat.{ℕ, _≤_}
 use native.Mathlib.Omega.{arith}
 use denote.Ref.{now}
 use Rattle.constraints.specs.declared.layout.LineHead.{LineHead}
 use Rattle.constraints.specs.Layout.{Line, lineOf}
-use Rattle.rules.proofs.LineFaults.{fault-1, fault-2, fault-3, fault-4}
+use Rattle.rules.proofs.LineFaults.{fault-1, fault-2, fault-3, fault-4, fault-5}
+use Rattle.certificate.proofs.Cutting.{cut-clear}
 use Rattle.certificate.proofs.Deciding.{passed-clear}
-use Rattle.certificate.proofs.LineFacts.{deep, line-is, line-shape, line-checkable, equation-is, property-is, join-is, arithmetic-is}
+use Rattle.certificate.proofs.LineFacts.{deep, line-is, line-shape, line-checkable, equation-is, property-is, join-is, arithmetic-is, cut-is}
 use borrow.Author.Needs.{needs}
 use Rattle.certificate.proofs.lines.own_fault.Statement.{statement}
 use Rattle.certificate.proofs.lines.own_fault.Tie as tie
@@ -18,10 +19,10 @@ use Rattle.certificate.proofs.lines.own_fault.Tie as tie
 kind-is : (s : tie.Start) → lineOf (now (s .args .cert)) (s .args .i) .head .kind ≡ s .args .h .kind
 kind-is s = ap (λ (line : Line). line .head .kind) (sym (line-is _ _ _ (s .pre .0 .0) _ _ (s .pre .0 .1) _ (s .pre .0 .2)))
 
--- of the four kinds it is the last, where it is none of the others
-kind-4 : (c : tie.Else3) → let a = c .before .before .before .before .before .args in lineOf (now (a .cert)) (a .i) .head .kind ≡ 4
-kind-4 c =
-    let s = c .before .before .before .before .before in
+-- of the five kinds it is the last, where it is none of the others
+kind-5 : (c : tie.Else4) → let a = c .before .before .before .before .before .before .args in lineOf (now (a .cert)) (a .i) .head .kind ≡ 5
+kind-5 c =
+    let s = c .before .before .before .before .before .before in
     let shape = line-shape _ _ _ (s .pre .0 .0) _ _ (s .pre .0 .1) (s .pre .1 .0 .0) in
     omega (
       arith,
@@ -29,9 +30,10 @@ kind-4 c =
       shape .most,
       kind-is s,
       ap (λ (h : LineHead). h .kind) (s .pre .0 .2),
-      c .if3 .left,
-      c .before .if2 .left,
-      c .before .before .if1 .left,
+      c .if4 .left,
+      c .before .if3 .left,
+      c .before .before .if2 .left,
+      c .before .before .before .if1 .left,
     )
 
 equation-passes-requires : tie.Need-equation-passes-requires
@@ -46,7 +48,7 @@ returns c =
     let s = one .before .before .before in (
       c .unless .ensures
           ∙ ap (λ (b : Bool). cond b 0 17) (c .before .equation-passes .ensures ∙ equation-is _ _ _ (s .pre .0 .0) _ _ (s .pre .0 .1))
-          ∙ sym (fault-1 _ _ _ _ _ (kind-is s ∙ one .if1 .taken)),
+          ∙ sym (fault-1 _ _ _ _ _ _ (kind-is s ∙ one .if1 .taken)),
       λ e. s .pre .1 .1,
     )
 
@@ -62,7 +64,7 @@ returns-2 c =
     let s = two .before .before .before .before in (
       c .unless2 .ensures
           ∙ ap (λ (b : Bool). cond b 0 18) (c .before .property-passes .ensures ∙ property-is _ _ _ (s .pre .0 .0) _ _ (s .pre .0 .1) _ (s .pre .0 .2))
-          ∙ sym (fault-2 _ _ _ _ _ (kind-is s ∙ two .if2 .taken)),
+          ∙ sym (fault-2 _ _ _ _ _ _ (kind-is s ∙ two .if2 .taken)),
       λ e. s .pre .1 .1,
     )
 
@@ -78,7 +80,7 @@ returns-3 c =
     let s = three .before .before .before .before .before in (
       c .unless3 .ensures
           ∙ ap (λ (b : Bool). cond b 0 19) (c .before .join-passes .ensures ∙ join-is _ _ _ (s .pre .0 .0) _)
-          ∙ sym (fault-3 _ _ _ _ _ (kind-is s ∙ three .if3 .taken)),
+          ∙ sym (fault-3 _ _ _ _ _ _ (kind-is s ∙ three .if3 .taken)),
       λ e. s .pre .1 .1,
     )
 
@@ -87,9 +89,13 @@ cast-arithmetic-ok c = search needs
 
 arithmetic-ok-requires : tie.Need-arithmetic-ok-requires
 arithmetic-ok-requires c κs =
-    let s = c .before .before .before .before .before .before .before in
+    let four = c .before .before in
+    let s = four .before .before .before .before .before .before in
     let checkable = line-checkable _ _ _ (s .pre .0 .0) _ _ (s .pre .0 .1) (omega (arith, s .pre .1 .0 .1 .room)) (s .pre .1 .0 .0) in
-    ((checkable, ap (λ (h : LineHead). h .count) (s .pre .0 .2)), s .pre .1 .1)
+    let shape = line-shape _ _ _ (s .pre .0 .0) _ _ (s .pre .0 .1) (s .pre .1 .0 .0) in
+    let counted = ap (λ (h : LineHead). h .count) (s .pre .0 .2) in
+    let kind = sym (ap (λ (h : LineHead). h .kind) (s .pre .0 .2)) ∙ four .if4 .taken in
+    ((checkable, counted), ((λ j l. shape .multipliers kind j (omega (arith, counted))), s .pre .1 .1))
 
 unless-requires-4 : tie.Need-unless-requires-4
 unless-requires-4 c κs = search needs
@@ -98,20 +104,46 @@ same-length : tie.Need-same-length
 same-length c = search needs
 
 -- a test that gives no number holds
-holds : (b : Bool) → _≡_ {A = ℕ} (cond b 0 20) 0 → b ≡ true
-holds true e = refl
-holds false e = absurd (omega (arith, e))
+holds : (b : Bool) (number : ℕ) → 1 ≤ number → _≡_ {A = ℕ} (cond b 0 number) 0 → b ≡ true
+holds true number l e = refl
+holds false number l e = absurd (omega (arith, e))
 
 returns-4 : tie.Need-returns-4
 returns-4 c =
     let summed = c .before .before in
-    let s = summed .before .before .before .before .before .before .before .before in (
+    let four = summed .before .before .before in
+    let s = four .before .before .before .before .before .before in (
       c .unless4 .ensures
           ∙ ap (λ (b : Bool). cond b 0 20) (summed .arithmetic-ok .ensures .0 ∙ arithmetic-is _ _ _ (s .pre .0 .0) _ _ (s .pre .0 .1))
-          ∙ sym (fault-4 _ _ _ _ _ (kind-4 (summed .before .before .before))),
+          ∙ sym (fault-4 _ _ _ _ _ _ (kind-is s ∙ four .if4 .taken)),
       λ e.
           summed .arithmetic-ok .ensures .1
-          ∙ passed-clear _ _ (sym (summed .arithmetic-ok .ensures .0) ∙ holds _ (sym (c .unless4 .ensures) ∙ e)),
+          ∙ passed-clear _ _ (sym (summed .arithmetic-ok .ensures .0) ∙ holds _ 20 (omega arith) (sym (c .unless4 .ensures) ∙ e)),
+    )
+
+cut-ok-requires : tie.Need-cut-ok-requires
+cut-ok-requires c κs =
+    let s = c .before .before .before .before .before .before .before in
+    let checkable = line-checkable _ _ _ (s .pre .0 .0) _ _ (s .pre .0 .1) (omega (arith, s .pre .1 .0 .1 .room)) (s .pre .1 .0 .0) in
+    ((checkable, s .pre .0 .2), s .pre .1 .1)
+
+unless-requires-5 : tie.Need-unless-requires-5
+unless-requires-5 c κs = search needs
+
+same-length-2 : tie.Need-same-length-2
+same-length-2 c = search needs
+
+returns-5 : tie.Need-returns-5
+returns-5 c =
+    let summed = c .before .before in
+    let five = summed .before .before in
+    let s = five .before .before .before .before .before .before in (
+      c .unless5 .ensures
+          ∙ ap (λ (b : Bool). cond b 0 22) (summed .cut-ok .ensures .0 ∙ cut-is _ _ _ (s .pre .0 .0) _ _ (s .pre .0 .1))
+          ∙ sym (fault-5 _ _ _ _ _ _ (kind-5 five)),
+      λ e.
+          summed .cut-ok .ensures .1
+          ∙ cut-clear _ _ (sym (summed .cut-ok .ensures .0) ∙ holds _ 22 (omega arith) (sym (c .unless5 .ensures) ∙ e)),
     )
 
 pub own-fault-spec : {M : Type 1} → statement M
@@ -131,4 +163,8 @@ own-fault-spec =
     arithmetic-ok-requires
     unless-requires-4
     same-length
-    returns-4)
+    returns-4
+    cut-ok-requires
+    unless-requires-5
+    same-length-2
+    returns-5)

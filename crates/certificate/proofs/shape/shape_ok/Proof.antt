@@ -29,7 +29,7 @@ returns c =
     shape-many (typesOf (now (s .args .types))) (s .args .k) (s .args .m) (line s) (c .if1 .taken)
 
 -- the test of the kind and its numbers
-numbers-are : (c : tie.After-are-numbers) → let h = c .before .before .before .before .before .before .before .args .h in (leb 1 (h .kind) && leb (h .kind) 4 && c .are-numbers .result) ≡ (leb 1 (h .kind) && leb (h .kind) 4 && numbersOk h)
+numbers-are : (c : tie.After-are-numbers) → let h = c .before .before .before .before .before .before .before .args .h in (leb 1 (h .kind) && leb (h .kind) 5 && c .are-numbers .result) ≡ (leb 1 (h .kind) && leb (h .kind) 5 && numbersOk h)
 numbers-are c = rw (c .are-numbers .ensures)
 
 returns-2 : tie.Need-returns-2

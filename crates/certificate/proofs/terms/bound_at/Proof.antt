@@ -1,8 +1,7 @@
 -- `certificate::bound_at` meets its contract: a bound that was read within the file, and a product that fits.
 -- Assumes nothing.
-use mathlib.Core.Path.{_≡_, _∙_, ap, ap₂}
-use mathlib.Core.List.{List}
-use Prim.Native.Nat.{ℕ, _+_, _≤_}
+use mathlib.Core.Path.{_∙_, ap, ap₂}
+use Prim.Native.Nat.{_+_, _≤_}
 use native.Mathlib.Omega.{arith}
 use borrow.Author.Needs.{needs}
 use lib.IntN.{pos, natAbs, _*ℤ_}
@@ -10,10 +9,8 @@ use mir.Syntax.{w64}
 use mir.Val.{SFits}
 use mir.Facts.{toZ-ofZ}
 use Rattle.integers.proofs.Reading.{rd}
-use Rattle.constraints.specs.declared.layout.ConstraintHead.{ConstraintHead}
-use Rattle.constraints.specs.Layout.{headAt}
 use Rattle.certificate.specs.Sums.{placeOf, oppositeBound}
-use Rattle.certificate.proofs.Words.{multiplier-word}
+use Rattle.certificate.proofs.Words.{multiplier-word, bound-read}
 use Rattle.certificate.proofs.Adding.{opposite-within}
 use Rattle.certificate.proofs.terms.bound_at.Statement.{statement}
 use Rattle.certificate.proofs.terms.bound_at.Tie as tie
@@ -27,18 +24,13 @@ place-of-requires c κs = search needs
 constraint-head-requires : tie.Need-constraint-head-requires
 constraint-head-requires c κs = search needs
 
--- the bound as it was read
-bound-is : (s : List ℕ) (head : ConstraintHead) (p place : ℕ) → SFits w64 (head .bound) → head ≡ headAt s p → p ≡ place
-    → rd w64 (head .bound) ≡ headAt s place .bound
-bound-is s head p place f e g = toZ-ofZ f ∙ ap (λ (h : ConstraintHead). h .bound) e ∙ ap (λ (p : ℕ). headAt s p .bound) g
-
 opposite-bound-requires : tie.Need-opposite-bound-requires
 opposite-bound-requires c κs =
     let head = c .before in
     let s = head .before .before .before .before in
     let place = placeOf (s .args .file .now) (s .args .start) (s .args .at) (s .args .j) in
     let read =
-    bound-is (s .args .file .now) (head .constraint-head .result) (head .before .place-of .result) place
+    bound-read (s .args .file .now) (head .constraint-head .result) (head .before .place-of .result) place
     (record { sfits = c .struct-told .given .1 .1 .0 .1 })
     (head .constraint-head .ensures)
     (head .before .place-of .ensures) in
@@ -69,7 +61,7 @@ returns c =
     let s = head .before .before .before .before in
     let place = placeOf (s .args .file .now) (s .args .start) (s .args .at) (s .args .j) in
     let read =
-    bound-is (s .args .file .now) (head .constraint-head .result) (head .before .place-of .result) place
+    bound-read (s .args .file .now) (head .constraint-head .result) (head .before .place-of .result) place
     (record { sfits = told .struct-told .given .1 .1 .0 .1 })
     (head .constraint-head .ensures)
     (head .before .place-of .ensures) in
