@@ -2,8 +2,10 @@
 //!
 //! They write what they are given, right or wrong, and share no code with
 //! the readers. [`proof`] keeps a part's lines and works out joins,
-//! [`search`] finds certificates, [`random`] draws nodes and damages files.
+//! [`search`] finds certificates, [`multiples`] writes some by cuts,
+//! [`random`] draws nodes and damages files.
 
+pub mod multiples;
 pub mod proof;
 pub mod random;
 pub mod search;
@@ -310,8 +312,18 @@ impl Line {
 
     /// Kind 4, each literal with its multiplier.
     pub fn arithmetic(weighted: &[(u16, u32)]) -> Self {
+        Line::weighted(4, 0, weighted)
+    }
+
+    /// Kind 5: the cut by r, each literal with its multiplier, that of the
+    /// last, the constraint which is cut out, among them.
+    pub fn cut(r: u16, weighted: &[(u16, u32)]) -> Self {
+        Line::weighted(5, r, weighted)
+    }
+
+    fn weighted(kind: u8, r: u16, weighted: &[(u16, u32)]) -> Self {
         let literals: Vec<u16> = weighted.iter().map(|(literal, _)| *literal).collect();
-        let mut line = Line::new(4, [0; 3], &literals);
+        let mut line = Line::new(kind, [0, 0, r], &literals);
         for (slot, (_, multiplier)) in line.multipliers.iter_mut().zip(weighted) {
             *slot = *multiplier;
         }

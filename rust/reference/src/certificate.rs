@@ -1,4 +1,4 @@
-//! The certificate checker: refusals 11 to 21, after 1 to 8 on the node file.
+//! The certificate checker: refusals 11 to 22, after 1 to 8 on the node file.
 
 pub mod constraint;
 pub mod equation;

@@ -1,6 +1,7 @@
 //! An independent implementation of "Induction certificates for Lustre
-//! booking nodes", called 01 in these comments: the node reader, the session
-//! and the certificate checker, over whole files and with no shared code.
+//! booking nodes", called 01 in these comments, and of the requests that
+//! change it, called 02: the node reader, the session and the certificate
+//! checker, over whole files and with no shared code.
 //!
 //! Every call is total: whatever the bytes, it answers or refuses, and it
 //! neither panics nor overflows.

@@ -6,7 +6,7 @@ mod examples;
 
 use common::{accepted, two_bands};
 use examples::{
-    certified, counter, first_only, five_then_nothing, int_ring, nothing_doubled, one_more,
+    certified, counter, first_only, five_then_nothing, int_ring, never, nothing_doubled, one_more,
     one_more_certificate, ring, ten_at_most, twins,
 };
 use reference::build::search::certificate;
@@ -65,6 +65,22 @@ fn operator_13() {
     }
 }
 
+/// Kind 5, with small and large r, and bounds of either sign.
+#[test]
+fn no_multiple() {
+    let ends = [1, -1, 7, -7, 999_999_999, -999_999_999];
+    for k in ends {
+        for depth in 1..=8 {
+            let (node, certificate) = never(2, k, depth);
+            accepted(&node, &certificate);
+        }
+        for m in [4, 255, 256, 65_534, 65_535] {
+            let (node, certificate) = never(m, k, 1);
+            accepted(&node, &certificate);
+        }
+    }
+}
+
 #[test]
 fn rings_need_their_depth() {
     for depth in 1..=8 {
@@ -79,8 +95,8 @@ fn rings_need_their_depth() {
 
 #[test]
 fn every_kind_stands_in_both_parts() {
-    let certificate = found(&ten_at_most(), 1);
-    for kind in 1..=4 {
+    let (_, certificate) = never(2, 7, 1);
+    for kind in 1..=5 {
         assert!(certificate.base.iter().any(|line| line.kind == kind));
         assert!(certificate.step.iter().any(|line| line.kind == kind));
     }

@@ -1,4 +1,4 @@
-//! Refusals 16 to 21, their places and their limits.
+//! Refusals 16 to 21, their places and their limits; 22 is in `cut_lines.rs`.
 
 mod common;
 
@@ -57,6 +57,7 @@ fn right_lines() -> Vec<Line> {
     vec![
         Line::equation(3, 1, 0, &[lit(3, 1)]),
         Line::arithmetic(&[(opp(on(0)), 1), (opp(on(1)), 1)]),
+        Line::cut(2, &[(opp(on(5)), 1), (on(0), 0)]),
     ]
 }
 
@@ -75,7 +76,7 @@ fn right_lines_pass() {
 #[test]
 fn refusal_16_kind() {
     for line in right_lines() {
-        for kind in [0, 5, 6, 255] {
+        for kind in [0, 6, 7, 255] {
             assert_eq!(base(Line { kind, ..line }), Err(16));
             assert_eq!(step(Line { kind, ..line }), Err(16));
         }
@@ -142,6 +143,9 @@ fn refusal_16_unused_fields() {
         }),
         Err(16)
     );
+    let cut = right_lines()[2];
+    assert_eq!(step(Line { p: 1, ..cut }), Err(16));
+    assert_eq!(step(Line { q: 256, ..cut }), Err(16));
     let first = u16::try_from(certificate(2).base.len()).unwrap();
     let join = Line::join(first + 1, first, lit(3, 2), &[]);
     assert_eq!(step(join), Ok(()));
@@ -152,10 +156,12 @@ fn refusal_16_unused_fields() {
             assert_eq!(step(wrong), Err(16));
         }
     }
-    for i in 2..12 {
-        let mut wrong = arithmetic;
-        wrong.multipliers[i] = 1;
-        assert_eq!(step(wrong), Err(16));
+    for line in [arithmetic, cut] {
+        for i in 2..12 {
+            let mut wrong = line;
+            wrong.multipliers[i] = 1;
+            assert_eq!(step(wrong), Err(16));
+        }
     }
 }
 
@@ -240,6 +246,7 @@ fn refusal_16_comes_before_the_kind_s_own() {
     assert_eq!(step(Line::property(9, &[lit(1, 0)])), Err(16));
     assert_eq!(step(Line::join(999, 999, 0, &[lit(1, 0)])), Err(16));
     assert_eq!(step(Line::arithmetic(&[(lit(0, 0), 0)])), Err(16));
+    assert_eq!(step(Line::cut(0, &[(lit(1, 0), 0)])), Err(16));
 }
 
 #[test]

@@ -8,10 +8,10 @@ mod examples;
 use common::{accepted, refused, trial, two_bands};
 use reference::answer::Place::{self, Line as AtLine};
 use reference::build::proof::Proof;
-use reference::build::search;
 use reference::build::{
     lit, on, opp, CertificateFile, Constraint, Line, NodeFile, Record, BOOL, INT,
 };
+use reference::build::{multiples, search};
 use reference::certificate::Part::{Base, Step};
 use reference::session::{begin, instant, Record as Session};
 
@@ -188,6 +188,35 @@ fn a_step_line_may_not_cite_a_base_line() {
     certificate.step.pop();
     refused(&node, &certificate, 21, Place::Step);
     assert_eq!(search::certificate(&node.bytes(), 1), None);
+}
+
+/// Twice 3 is 6, so no cut of 2·u at most 6 and minus 2·u at most −6 may say
+/// less than u at most 3 and minus u at most −3.
+#[test]
+fn a_cut_is_not_rounded_past_the_floor() {
+    let node = multiples::node(2, 6);
+    let mut session = Session::new();
+    begin(&mut session, &node.bytes()).unwrap();
+    let mut values = [0; 5];
+    instant(&mut session, &[3], &mut values).unwrap();
+    assert_eq!(values, [3, 6, 6, 1, 0]);
+    for (bounds, number, line) in [([2, -3], 22, 3), ([3, -4], 22, 4), ([3, -3], 20, 5)] {
+        let certificate = multiples::certificate(2, 6, 1, bounds);
+        refused(&node, &certificate, number, AtLine(line));
+    }
+}
+
+/// The bounds are the floor's, not those of other ways to round: 7 and −7
+/// by 2 are 3 and −4.
+#[test]
+fn a_cut_is_rounded_toward_minus_infinity() {
+    let node = multiples::node(2, 7);
+    let (toward_zero, up, down) = ([3, -3], [4, -3], [3, -4]);
+    for (bounds, line) in [(toward_zero, 4), (up, 3)] {
+        let certificate = multiples::certificate(2, 7, 1, bounds);
+        refused(&node, &certificate, 22, AtLine(line));
+    }
+    accepted(&node, &multiples::certificate(2, 7, 1, down));
 }
 
 /// A base that is right does not carry a step that is not, nor the other way

@@ -41,6 +41,11 @@ impl Proof {
         self.push(Line::arithmetic(weighted))
     }
 
+    /// Adds a line of kind 5.
+    pub fn cut(&mut self, r: u16, weighted: &[(u16, u32)]) -> u16 {
+        self.push(Line::cut(r, weighted))
+    }
+
     /// Adds the join of lines p and q on literal r of p: all their other
     /// literals, each once.
     pub fn join(&mut self, p: u16, q: u16, r: u16) -> u16 {

@@ -1,4 +1,6 @@
-//! The lines: refusals 16 to 20.
+//! The lines: refusals 16 to 20 and 22.
+
+mod arithmetic;
 
 use super::constraint::Constraint;
 use super::equation::{self, Item};
@@ -10,19 +12,20 @@ use crate::node::{Node, Type, MAX_STREAMS};
 
 /// 01: "literal count byte (0 to 12)".
 const MAX_LITERALS: usize = 12;
-/// 01: "multipliers (1 to 1,000,000)".
+/// The largest multiplier.
 const MAX_MULTIPLIER: u32 = 1_000_000;
 /// One number for each stream at each offset.
 const VARIABLES: usize = MAX_STREAMS * (MAX_DEPTH as usize + 1);
 
 /// A line's kind. 01: "Kinds: 1. Equation", "2. Property", "3. Join",
-/// "4. Arithmetic".
+/// "4. Arithmetic"; 02's kind 5 is a cut.
 #[derive(Clone, Copy, Debug, PartialEq, Eq)]
 enum Kind {
     Equation,
     Property,
     Join,
     Arithmetic,
+    Cut,
 }
 
 impl Kind {
@@ -32,6 +35,7 @@ impl Kind {
             2 => Some(Kind::Property),
             3 => Some(Kind::Join),
             4 => Some(Kind::Arithmetic),
+            5 => Some(Kind::Cut),
             _ => None,
         }
     }
@@ -43,6 +47,7 @@ impl Kind {
             Kind::Property => 18,
             Kind::Join => 19,
             Kind::Arithmetic => 20,
+            Kind::Cut => 22,
         }
     }
 }
@@ -109,30 +114,43 @@ impl Line {
     }
 
     /// 01: "What its kind and count don't use is zero." Kinds 1 and 3 use p,
-    /// q and r, kind 2 uses q, kind 4 the multipliers of its literals.
+    /// q and r, kind 2 uses q, kind 4 the multipliers of its literals, kind 5
+    /// those and r. 02: "22, a kind 5 line not as described, multipliers
+    /// included", so that 16 limits those of kind 4 alone.
     fn is_well_formed(&self) -> bool {
         let count = self.clause.count;
         let (fields_right, used) = match self.kind {
             Kind::Equation | Kind::Join => (true, 0),
             Kind::Property => (self.p == 0 && self.r == 0, 0),
             Kind::Arithmetic => (self.p == 0 && self.q == 0 && self.r == 0, count),
+            Kind::Cut => (self.p == 0 && self.q == 0, count),
         };
         count <= MAX_LITERALS
             && fields_right
             && self.clause.literals[count..]
                 .iter()
                 .all(|l| l.number() == 0)
-            && self.multipliers[..used]
-                .iter()
-                .all(|m| (1..=MAX_MULTIPLIER).contains(m))
+            && (self.kind == Kind::Cut || self.multipliers[..used].iter().all(is_multiplier))
             && self.multipliers[used..].iter().all(|m| *m == 0)
     }
 
     /// The literals with their multipliers.
-    fn weighted(&self) -> impl Iterator<Item = (Literal, i128)> + '_ {
-        let multipliers = self.multipliers.iter().map(|m| i128::from(*m));
-        self.clause.literals().iter().copied().zip(multipliers)
+    fn weighted(&self) -> impl DoubleEndedIterator<Item = Weighted> + '_ {
+        let multipliers = self.multipliers[..self.clause.count].iter();
+        self.clause
+            .literals()
+            .iter()
+            .copied()
+            .zip(multipliers.copied())
     }
+}
+
+/// A literal with its multiplier.
+type Weighted = (Literal, u32);
+
+/// 01: "multipliers (1 to 1,000,000)".
+fn is_multiplier(multiplier: &u32) -> bool {
+    (1..=MAX_MULTIPLIER).contains(multiplier)
 }
 
 /// The checker of lines, with what the lines speak of.
@@ -142,8 +160,8 @@ pub struct Checker<'a> {
     constraints: &'a [Constraint],
     /// The lines so far of the part being checked.
     clauses: Vec<Clause>,
-    /// Kind 4's sum of coefficients at each variable. It is all zero between
-    /// lines: a line that leaves a sum other than 0 is refused, and no line
+    /// The sum of coefficients at each variable, of kinds 4 and 5. It is all
+    /// zero between lines: a line that leaves a sum other than 0 is refused, and no line
     /// follows a refused one.
     sums: [i128; VARIABLES],
 }
@@ -209,6 +227,7 @@ impl<'a> Checker<'a> {
             Kind::Property => self.is_property(line, part),
             Kind::Join => self.is_join(line, first),
             Kind::Arithmetic => self.is_arithmetic(line),
+            Kind::Cut => self.is_cut(line),
         }
     }
 
@@ -277,55 +296,5 @@ impl<'a> Checker<'a> {
             && q.contains(!r)
             && p.stands_in(&line.clause, r)
             && q.stands_in(&line.clause, !r)
-    }
-
-    /// Kind 4: "at least one literal, all on constraints. The opposites,
-    /// times their multipliers (1 to 1,000,000), sum to coefficient 0 at each
-    /// variable and to a bound of at most −1."
-    fn is_arithmetic(&mut self, line: &Line) -> bool {
-        let mut bound = 0;
-        for (literal, multiplier) in line.weighted() {
-            let Some(constraint) = self.constraint(literal) else {
-                return false;
-            };
-            bound += multiplier * opposite_bound(literal, constraint);
-            let factor = if literal.is_negated() {
-                multiplier
-            } else {
-                -multiplier
-            };
-            for term in constraint.terms() {
-                self.sums[usize::from(term.variable)] += factor * i128::from(term.coefficient);
-            }
-        }
-        line.clause.count > 0 && bound <= -1 && self.sums_vanish(&line.clause)
-    }
-
-    /// The constraint a literal is on.
-    fn constraint(&self, literal: Literal) -> Option<&'a Constraint> {
-        match literal.atom() {
-            Atom::Constraint(i) => self.constraints.get(i),
-            Atom::Stream { .. } => None,
-        }
-    }
-
-    /// Whether the sum is 0 at each variable of the clause's constraints.
-    fn sums_vanish(&self, clause: &Clause) -> bool {
-        let mut constraints = clause.literals().iter().filter_map(|l| self.constraint(*l));
-        constraints.all(|constraint| {
-            let mut terms = constraint.terms().iter();
-            terms.all(|term| self.sums[usize::from(term.variable)] == 0)
-        })
-    }
-}
-
-/// The bound of a literal's opposite. 01: "The negation of “sum at most B” is
-/// “minus sum at most −B − 1”."
-fn opposite_bound(literal: Literal, constraint: &Constraint) -> i128 {
-    let bound = i128::from(constraint.bound());
-    if literal.is_negated() {
-        bound
-    } else {
-        -bound - 1
     }
 }

@@ -115,14 +115,7 @@ fn line(line: &Line) -> String {
 
 /// What a line is by, and the line that says this and no more.
 fn justification(line: &Line) -> (String, Line) {
-    let Line {
-        kind,
-        p,
-        q,
-        r,
-        multipliers,
-        ..
-    } = *line;
+    let Line { kind, p, q, r, .. } = *line;
     let literals = line.clause();
     match kind {
         1 => (
@@ -134,15 +127,25 @@ fn justification(line: &Line) -> (String, Line) {
             format!("join of {p} and {q} on {}", Literal::from_number(r)),
             Line::join(p, q, r, literals),
         ),
-        4 => {
-            let weighted: Vec<_> = literals.iter().copied().zip(multipliers).collect();
-            let times = listed(weighted.iter().map(|(_, multiplier)| multiplier));
-            (
-                format!("arithmetic times {times}"),
-                Line::arithmetic(&weighted),
-            )
-        }
+        4 | 5 => summed(line),
         _ => (format!("kind {kind} with {p}, {q}, {r}"), *line),
+    }
+}
+
+/// The same of a line of kind 4 or 5.
+fn summed(line: &Line) -> (String, Line) {
+    let literals = line.clause().iter().copied();
+    let weighted: Vec<_> = literals.zip(line.multipliers).collect();
+    let times = listed(weighted.iter().map(|(_, multiplier)| multiplier));
+    match line.kind {
+        4 => (
+            format!("arithmetic times {times}"),
+            Line::arithmetic(&weighted),
+        ),
+        _ => (
+            format!("cut by {} times {times}", line.r),
+            Line::cut(line.r, &weighted),
+        ),
     }
 }
 

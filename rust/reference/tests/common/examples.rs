@@ -3,10 +3,10 @@
 #![allow(dead_code)]
 
 use reference::build::proof::{two_bands_certificate, two_bands_node, Proof};
-use reference::build::search;
 use reference::build::{
     lit, on, opp, CertificateFile, Constraint, Line, NodeFile, Record, BOOL, INT,
 };
+use reference::build::{multiples, search};
 
 /// 0 zero; 1 one; 2 c = zero -> pre (c + one); 4 c is not below zero.
 pub fn counter() -> NodeFile {
@@ -185,11 +185,20 @@ pub fn provable() -> Vec<(NodeFile, u8)> {
     nodes
 }
 
-/// The certificates of [`provable`], and the two written by hand.
+/// A multiple of m is never k: by cuts, which no search finds.
+pub fn never(m: u16, k: i32, depth: u8) -> (NodeFile, CertificateFile) {
+    let bounds = multiples::bounds(m, k);
+    let certificate = multiples::certificate(m, k, depth, bounds);
+    (multiples::node(m, k), certificate)
+}
+
+/// The certificates of [`provable`], and those written by hand.
 pub fn certified() -> Vec<(NodeFile, CertificateFile)> {
     let mut pairs = vec![
         (two_bands_node(), two_bands_certificate()),
         (one_more(), one_more_certificate()),
+        never(2, 7, 1),
+        never(3, -5, 2),
     ];
     for (node, depth) in provable() {
         let found = search::certificate(&node.bytes(), depth).expect("a certificate");
