@@ -49,7 +49,7 @@ static inline int place_fits(size_t number, size_t place)
         return place == CONUHAWE_RECORD;
     if (number == 15)
         return place == CONUHAWE_CONSTRAINT;
-    if (number >= 16 && number <= 20)
+    if ((number >= 16 && number <= 20) || number == 22)
         return place == CONUHAWE_LINE;
     return number == 21 && (place == CONUHAWE_BASE || place == CONUHAWE_STEP);
 }

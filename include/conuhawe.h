@@ -48,7 +48,7 @@ enum {
     CONUHAWE_RECORD_TYPES = 7,
     CONUHAWE_PROPERTY_TYPE = 8,
 
-    /* certificate; places: file for 11 to 14, constraint for 15, line for 16 to 20, base or step for 21 */
+    /* certificate; places: file for 11 to 14, constraint for 15, line for 16 to 20 and 22, base or step for 21 */
     CONUHAWE_CERTIFICATE_LENGTH = 11,
     CONUHAWE_CERTIFICATE_FIXED_BYTES = 12,
     CONUHAWE_CERTIFICATE_COUNTS = 13,
@@ -60,6 +60,7 @@ enum {
     CONUHAWE_JOIN_LINE = 19,
     CONUHAWE_ARITHMETIC_LINE = 20,
     CONUHAWE_NO_EMPTY_LINE = 21,
+    CONUHAWE_CUT_LINE = 22,
 
     /* instant's call; places: file for 30 to 32, record for 33 and 34 */
     CONUHAWE_NO_NODE = 30,
@@ -91,7 +92,7 @@ typedef struct conuhawe_session {
 /* Checks a node file by rules 1 to 8. Accepted: value[0] is the stream count and value[1] the property stream. */
 conuhawe_answer conuhawe_read(const uint8_t *node, size_t node_length);
 
-/* Checks a certificate for a node file: rules 1 to 8 for the node, then 11 to 21. Accepted: value[0] is the depth, value[1] and
+/* Checks a certificate for a node file: rules 1 to 8 for the node, then 11 to 22. Accepted: value[0] is the depth, value[1] and
  * value[2] are the trailer's counts of base lines and step lines, and the node's property holds at every instant on all inputs. */
 conuhawe_answer conuhawe_check(const uint8_t *node, size_t node_length, const uint8_t *certificate, size_t certificate_length);
 

@@ -72,6 +72,9 @@ static void check_files(file node, file cert)
     /* line 2, a join of lines 0 and 1, cites line 0 twice */
     c[80 * 2 + 4] = 0;
     expect("join", conuhawe_check(n, node.length, c, cert.length), CONUHAWE_JOIN_LINE, CONUHAWE_LINE, 2, 0, 0, 0);
+    /* line 0, the property's, has no constraint to be a cut */
+    c[0] = 5;
+    expect("cut", conuhawe_check(n, node.length, c, cert.length), CONUHAWE_CUT_LINE, CONUHAWE_LINE, 0, 0, 0, 0);
     free(n);
     free(c);
 }

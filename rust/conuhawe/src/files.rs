@@ -21,7 +21,7 @@ pub fn read(node: &[u8]) -> Result<Node, Refusal> {
 ///
 /// # Errors
 ///
-/// The first rule that is broken: of 1 to 8 for the node, then of 11 to 21.
+/// The first rule that is broken: of 1 to 8 for the node, then of 11 to 22.
 pub fn check(node: &[u8], certificate: &[u8]) -> Result<Accepted, Refusal> {
     // SAFETY: as above.
     unsafe {

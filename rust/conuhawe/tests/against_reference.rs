@@ -6,7 +6,7 @@ mod common;
 use common::two_bands;
 use conuhawe::Session;
 use reference::build::random::{self, damage, Random};
-use reference::build::{search, BOOL, INT};
+use reference::build::{multiples, search, BOOL, INT};
 use reference::node::{self, Type};
 use reference::{certificate, session};
 use std::collections::BTreeSet;
@@ -19,9 +19,18 @@ fn line<A: Display, R: Display>(answer: Result<A, R>) -> String {
     answer.map_or_else(|refusal| refusal.to_string(), |a| a.to_string())
 }
 
-/// The two bands, and random nodes that have a certificate.
+/// A multiple of m is never k, by cuts.
+fn never(m: u16, k: i32) -> Pair {
+    let certificate = multiples::certificate(m, k, 1, multiples::bounds(m, k));
+    (multiples::node(m, k).bytes(), certificate.bytes())
+}
+
+/// The two bands, nodes proved by cuts, and random nodes that have a
+/// certificate.
 fn seeds(random: &mut Random) -> Vec<Pair> {
     let mut pairs = vec![two_bands()];
+    let cuts = [(2, 7), (2, -7), (65_535, 1), (1_000, -999_999_999)];
+    pairs.extend(cuts.map(|(m, k)| never(m, k)));
     for i in 0..300 {
         let node = random::node(random, 3 + i % 9).bytes();
         let depth = [1, 1, 2, 3][random.below(4)];
@@ -70,7 +79,7 @@ fn damaged_pairs() {
         let answer = agreed(&(node, certificate));
         met.extend(answer.split(' ').nth(1).map(str::to_owned));
     }
-    for number in (1..=8).chain(11..=21) {
+    for number in (1..=8).chain(11..=22) {
         assert!(met.contains(&number.to_string()), "{number} of {met:?}");
     }
 }

@@ -55,6 +55,9 @@ fn a_refusal_names_the_line() {
     // Line 2 joins lines 0 and 1; now it joins line 0 with itself.
     certificate[80 * 2 + 4] = 0;
     assert_eq!(check(&node, &certificate), refused(19, Place::Line(2)));
+    // Line 0, the property's, has no constraint to be a cut.
+    certificate[0] = 5;
+    assert_eq!(check(&node, &certificate), refused(22, Place::Line(0)));
 }
 
 #[test]
