@@ -5,11 +5,13 @@ use crate::damage::{damage, Layout};
 use crate::draft::{Draft, MAX_BLOCKS};
 use crate::forge;
 use crate::grow::{grow, Mix};
+use crate::miscuts::{spoiled, Way};
 use crate::nodes::{self, Taste};
 use crate::pool::Certified;
 use crate::prove;
 use crate::random::Random;
 use reference::build::{CertificateFile, NodeFile};
+use reference::certificate::Part;
 
 /// A node file and a certificate file.
 pub type Pair = (Vec<u8>, Vec<u8>);
@@ -148,6 +150,32 @@ fn grown(random: &mut Random) -> (NodeFile, CertificateFile, Expected) {
         (false, _) => Expected::Refused(21),
     };
     (node, certificate, expected)
+}
+
+/// A proof with cuts before and after it in both parts. A way spoils one more
+/// at the end of either part, unless it finds nothing to spoil.
+pub fn among_cuts(random: &mut Random, way: Option<&Way>) -> Option<(NodeFile, CertificateFile)> {
+    let taste = Taste {
+        ints: 8,
+        truth: true,
+        ..Taste::any(random)
+    };
+    let node = nodes::node(random, taste);
+    let mut draft = Draft::new(&node, random.within(1, 8) as u8);
+    let part = random.of([Part::Base, Part::Step]);
+    for own in [Part::Base, Part::Step] {
+        if own == Part::Step {
+            draft.begin_step();
+        }
+        grow(random, &mut draft, Mix::CUTS, 3);
+        prove::refute(&mut draft)?;
+        grow(random, &mut draft, Mix::CUTS, 3);
+        if let Some(way) = way.filter(|_| own == part) {
+            spoiled(random, &mut draft, way)?;
+        }
+    }
+    let certificate = draft.finish();
+    Some((node, certificate))
 }
 
 /// The files' bytes, with or without notes.

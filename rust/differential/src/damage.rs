@@ -46,6 +46,16 @@ fn number(file: &[u8], at: usize, width: usize) -> i64 {
     i64::from_le_bytes(bytes)
 }
 
+/// The lines of a certificate file that passes 11 to 14, and whether each is
+/// a step line.
+pub fn lines(certificate: &[u8]) -> impl Iterator<Item = (bool, &[u8])> {
+    let front = &certificate[..certificate.len() - 16];
+    let count = |back| number(certificate, certificate.len() - back, 2) as usize;
+    let [base, step] = [10, 8].map(count);
+    let blocks = front[front.len() - 80 * (base + step)..].chunks(80);
+    blocks.enumerate().map(move |(i, line)| (i >= base, line))
+}
+
 /// Where a right file's blocks begin, and how many of each there are.
 #[derive(Clone, Copy, Debug)]
 pub enum Layout {
@@ -186,7 +196,7 @@ fn line(file: &[u8], at: usize, own: usize, n: usize, k: i64, counts: &[usize; 3
     let (own, n) = (own as i64, n as i64);
     let first = if own < base { 0 } else { base };
     let mut fields = vec![
-        Field::new(at, 1, [0, 1, 2, 3, 4, 5, 255]),
+        Field::new(at, 1, [0, 1, 2, 3, 4, 5, 6, 255]),
         Field::new(at + 1, 1, [0, 11, 12, 13, 255]).around(file),
     ];
     let cited = [0, own - 1, own, own + 1, first, first - 1, 65_535];

@@ -12,6 +12,11 @@ pub const MAX_BLOCKS: usize = 818;
 /// As many constraints as a certificate may have.
 pub const MAX_CONSTRAINTS: usize = 256;
 
+/// The constraint that a literal is on, if it is on one of these.
+pub fn constraint_of(constraints: &[Constraint], literal: u16) -> Option<&Constraint> {
+    constraints.get(usize::from(literal / 2).checked_sub(576)?)
+}
+
 /// The certificate so far.
 #[derive(Clone, Debug)]
 pub struct Draft<'a> {
@@ -105,8 +110,7 @@ impl<'a> Draft<'a> {
 
     /// The constraint a literal is on, if it is on one.
     pub fn constraint_of(&self, literal: u16) -> Option<&Constraint> {
-        let i = usize::from(literal / 2).checked_sub(576)?;
-        self.constraints.get(i)
+        constraint_of(&self.constraints, literal)
     }
 
     /// Adds a line, if there is room, and gives its number.

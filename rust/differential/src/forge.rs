@@ -1,26 +1,29 @@
-//! 01's false turns: whole arguments for properties that fail, each right but
-//! for one turn, and single lines that take such a turn.
+//! 01's false turns and a cut below the floor: whole arguments for properties
+//! that fail, each right but for one turn, and single lines that take such a
+//! turn.
 
 use crate::clauses::{clauses, Item};
 use crate::draft::Draft;
 use crate::grow::{grow, Mix};
 use crate::linear::Linear;
+use crate::miscuts;
 use crate::prove::refute;
 use crate::random::Random;
 use reference::build::proof::resolvent;
-use reference::build::{lit, opp, CertificateFile, Line, NodeFile, Record, BOOL, INT};
+use reference::build::{lit, multiples, opp, CertificateFile, Line, NodeFile, Record, BOOL, INT};
 use reference::certificate::Part;
 
 /// A node, a forged certificate for it, and the number that refuses it.
 pub type Forgery = (NodeFile, CertificateFile, u8);
 
-/// One of the four turns at some depth, with other right lines around it.
+/// One of the five turns at some depth, with other right lines around it.
 pub fn forgery(random: &mut Random) -> Forgery {
     let k = random.within(1, 8) as u8;
-    let (node, turn, number): (_, Turn, u8) = match random.below(4) {
+    let (node, turn, number): (_, Turn, u8) = match random.below(5) {
         0 => (first_instant_node(random, k), first_instant, 17),
         1 => (never_equal_node(), never_equal, 20),
         2 => (input_node(), both_signs, 19),
+        3 => (multiple_node(random), below_the_floor, 22),
         _ => (delayed_node(k), base_line_cited, 19),
     };
     let mut draft = Draft::new(&node, k);
@@ -175,13 +178,41 @@ fn base_line_cited(draft: &mut Draft) -> Option<u16> {
     Some(line)
 }
 
+/// 1 is m times 0, and 4 says that it is never some multiple of m.
+fn multiple_node(random: &mut Random) -> NodeFile {
+    let m = random.of([1, 2, 3, 1_000, 65_535]);
+    let times = random.of([0, 1, -1, 7, -7, 15_000, -15_000]);
+    multiples::node(m, i32::from(m) * times)
+}
+
+/// A cut that rounds one past the floor, which makes the two clash.
+fn below_the_floor(draft: &mut Draft) -> Option<u16> {
+    let [_, times, constant, ..] = draft.node.records[..] else {
+        return None;
+    };
+    let m = times.k as u16;
+    let [upper, lower] = multiples::bounds(m, constant.k);
+    let bounds = match draft.depth % 2 {
+        0 => [upper - 1, lower],
+        _ => [upper, lower - 1],
+    };
+    let forged = multiples::certificate(m, constant.k, draft.depth, bounds);
+    let (lines, first) = match draft.part() {
+        Part::Base => (&forged.base, 0),
+        Part::Step => (&forged.step, forged.base.len()),
+    };
+    draft.import(&forged, lines, first)?;
+    None
+}
+
 /// Adds a line that takes a false turn, if the draft has what it needs.
 pub fn forged_line(random: &mut Random, draft: &mut Draft) -> Option<u16> {
-    match random.below(5) {
+    match random.below(6) {
         0 => as_first_instant(random, draft),
         1 => as_zero(random, draft),
         2 => as_both_signs(random, draft),
         3 => as_base_line(random, draft),
+        4 => miscuts::miscut(random, draft).map(|(line, _)| line),
         _ => as_other_sign(random, draft),
     }
 }
@@ -255,7 +286,7 @@ fn as_other_sign(random: &mut Random, draft: &mut Draft) -> Option<u16> {
             line.literals[usize::from(line.count)] = 0;
             line.multipliers[usize::from(line.count)] = 0;
         }
-        _ => line.kind = line.kind % 4 + 1,
+        _ => line.kind = line.kind % 5 + 1,
     }
     draft.add(line)
 }

@@ -1,7 +1,9 @@
 //! Random lines that are right: equations of every operator, part and offset,
-//! property lines, joins of lines that clash, and arithmetic whose last
-//! constraint is made to fit. A certificate so grown passes to its last line.
+//! property lines, joins of lines that clash, arithmetic whose last
+//! constraint is made to fit, and cuts. A certificate so grown passes to its
+//! last line.
 
+use crate::cuts;
 use crate::draft::Draft;
 use crate::linear::Linear;
 use crate::nodes;
@@ -18,6 +20,8 @@ pub struct Mix {
     pub joins: usize,
     /// Arithmetic.
     pub arithmetic: usize,
+    /// Cuts.
+    pub cuts: usize,
 }
 
 impl Mix {
@@ -26,6 +30,15 @@ impl Mix {
         equations: 4,
         joins: 4,
         arithmetic: 2,
+        cuts: 2,
+    };
+
+    /// Cuts, and now and then an equation.
+    pub const CUTS: Mix = Mix {
+        equations: 1,
+        joins: 0,
+        arithmetic: 0,
+        cuts: 9,
     };
 }
 
@@ -37,15 +50,18 @@ pub fn grow(random: &mut Random, draft: &mut Draft, mix: Mix, count: usize) {
 }
 
 fn grow_one(random: &mut Random, draft: &mut Draft, mix: Mix) -> Option<u16> {
-    let drawn = random.below(mix.equations + mix.joins + mix.arithmetic);
+    let sums = mix.arithmetic + mix.cuts;
+    let drawn = random.below(mix.equations + mix.joins + sums);
     if random.once_in(24) {
         property(random, draft)
     } else if drawn < mix.equations {
         equation(random, draft)
     } else if drawn < mix.equations + mix.joins {
         join(random, draft).or_else(|| equation(random, draft))
-    } else {
+    } else if drawn < mix.equations + mix.joins + mix.arithmetic {
         arithmetic(random, draft)
+    } else {
+        cut(random, draft)
     }
 }
 
@@ -111,7 +127,7 @@ pub fn any_literal(random: &mut Random, draft: &Draft) -> Option<u16> {
 }
 
 /// A multiplier: mostly small, at times at its limit.
-fn multiplier(random: &mut Random) -> u32 {
+pub fn multiplier(random: &mut Random) -> u32 {
     random.of([1, 1, 1, 1, 2, 3, 7, 1_000, 999_999, 1_000_000])
 }
 
@@ -156,8 +172,17 @@ fn tautology(random: &mut Random, draft: &mut Draft) -> Option<Vec<(u16, u32)>> 
     Some(weighted)
 }
 
+/// A cut, or at times the arithmetic line that it is like.
+fn cut(random: &mut Random, draft: &mut Draft) -> Option<u16> {
+    let cut = cuts::cut(random, draft)?;
+    draft.add(match random.below(5) {
+        0 => cuts::arithmetic(cut),
+        _ => cut,
+    })
+}
+
 /// A literal on a constraint: one that is there, an equal one, or a new one.
-fn some_constraint(random: &mut Random, draft: &mut Draft) -> Option<u16> {
+pub fn some_constraint(random: &mut Random, draft: &mut Draft) -> Option<u16> {
     let count = draft.constraints.len();
     let known = (count > 0).then(|| random.below(count));
     let sign = u16::from(random.byte() & 1);

@@ -21,21 +21,25 @@ pub struct Kind {
     pub mix: Mix,
 }
 
-/// The kinds; few constraints leave room for about 800 lines.
+/// The kinds of 01's lines; few constraints leave room for about 800 lines.
 pub const KINDS: [Kind; 4] = [
-    Kind::new("joins", 0, 0, [1, 20, 0]),
-    Kind::new("arithmetic", 8, 32, [0, 0, 1]),
-    Kind::new("equations", 5, 32, [1, 0, 0]),
-    Kind::new("all", 8, MAX_CONSTRAINTS, [1, 1, 1]),
+    Kind::new("joins", 0, 0, [1, 20, 0, 0]),
+    Kind::new("arithmetic", 8, 32, [0, 0, 1, 0]),
+    Kind::new("equations", 5, 32, [1, 0, 0, 0]),
+    Kind::new("all", 8, MAX_CONSTRAINTS, [1, 1, 1, 0]),
 ];
 
+/// Cuts, and arithmetic among them.
+pub const CUTS: Kind = Kind::new("cuts", 8, MAX_CONSTRAINTS, [0, 0, 1, 4]);
+
 impl Kind {
-    const fn new(name: &'static str, ints: usize, constraints: usize, mix: [usize; 3]) -> Self {
-        let [equations, joins, arithmetic] = mix;
+    const fn new(name: &'static str, ints: usize, constraints: usize, mix: [usize; 4]) -> Self {
+        let [equations, joins, arithmetic, cuts] = mix;
         let mix = Mix {
             equations,
             joins,
             arithmetic,
+            cuts,
         };
         Kind {
             name,

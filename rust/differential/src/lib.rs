@@ -1,12 +1,14 @@
 //! Differential tests: generated nodes, certificates and passes on which two
 //! implementations of "Induction certificates for Lustre booking nodes",
-//! called 01 in these comments, must say the same, byte for byte.
+//! called 01 in these comments, and of the requests that change it, called
+//! 02, must say the same, byte for byte.
 //!
 //! * [`checker`] is what an implementation is compared by; [`by_reference`]
 //!   is `rust/reference`, [`twin`] a second path through any checker, and
 //!   `proved` (a feature) the proved library.
-//! * [`nodes`], [`draft`], [`grow`], [`prove`], [`forge`], [`pool`] and
-//!   [`passes`] generate; [`damage`] spoils; [`cases`] mixes them.
+//! * [`nodes`], [`draft`], [`grow`], [`cuts`], [`prove`], [`forge`], [`pool`]
+//!   and [`passes`] generate; [`damage`] and [`miscuts`] spoil; [`cases`]
+//!   mixes them. [`largest`] and [`alike`] generate what is measured.
 //! * [`compare`] compares, and prints seed and bytes where two differ;
 //!   [`tally`] counts what was met.
 //!
@@ -23,11 +25,13 @@
 #![forbid(unsafe_code)]
 #![warn(missing_docs)]
 
+pub mod alike;
 pub mod by_reference;
 pub mod cases;
 pub mod checker;
 pub mod clauses;
 pub mod compare;
+pub mod cuts;
 pub mod damage;
 pub mod draft;
 pub mod evaluator;
@@ -35,6 +39,7 @@ pub mod forge;
 pub mod grow;
 pub mod largest;
 pub mod linear;
+pub mod miscuts;
 pub mod nodes;
 pub mod passes;
 pub mod pool;

@@ -72,6 +72,17 @@ impl Linear {
         }
     }
 
+    /// The sum divided by r, its bound rounded toward minus infinity, if r
+    /// divides each coefficient.
+    pub fn divided(&self, r: u16) -> Option<Self> {
+        let r = i128::from(r);
+        let divide = |(variable, c): (Variable, i128)| (c % r == 0).then_some((variable, c / r));
+        Some(Linear {
+            terms: self.used().map(divide).collect::<Option<_>>()?,
+            bound: self.bound.div_euclid(r),
+        })
+    }
+
     /// The terms that are not zero.
     pub fn used(&self) -> impl Iterator<Item = (Variable, i128)> + '_ {
         let terms = self.terms.iter().map(|(variable, c)| (*variable, *c));

@@ -1,10 +1,10 @@
 //! Nodes with certificates that need more than unit steps: induction over
-//! ints and cases, found by the reference's search once a run.
+//! ints and cases, found by the reference's search once a run, and cuts.
 
 use crate::nodes::{self, Taste};
 use crate::random::Random;
 use reference::build::proof::two_bands_node;
-use reference::build::{search, CertificateFile, NodeFile, Record, BOOL, INT};
+use reference::build::{multiples, search, CertificateFile, NodeFile, Record, BOOL, INT};
 
 /// A node and its certificate.
 pub type Certified = (NodeFile, CertificateFile);
@@ -17,6 +17,7 @@ pub fn pool(random: &mut Random) -> Vec<Certified> {
             found.extend(certified(node.clone(), depth));
         }
     }
+    found.extend((0..60).map(|_| no_multiple(random)));
     for _ in 0..500 {
         let taste = Taste {
             size: random.within(3, 8),
@@ -29,6 +30,18 @@ pub fn pool(random: &mut Random) -> Vec<Certified> {
         found.extend(certified(node, random.of([1, 1, 2, 3])));
     }
     found
+}
+
+/// A multiple of m is never k, where m does not divide k.
+fn no_multiple(random: &mut Random) -> Certified {
+    let large = random.within(2, 65_535) as u16;
+    let m = random.of([2, 2, 3, 10, 255, 256, 65_534, 65_535, large]);
+    let least = random.within(1, usize::from(m) - 1) as i32;
+    let times = random.of([0, 0, 1, 2, 1_000, 15_000]);
+    let k = (least + i32::from(m) * times) * random.of([1, -1]);
+    let depth = random.within(1, 8) as u8;
+    let certificate = multiples::certificate(m, k, depth, multiples::bounds(m, k));
+    (multiples::node(m, k), certificate)
 }
 
 fn certified(node: NodeFile, depth: u8) -> Option<Certified> {

@@ -1,16 +1,20 @@
 //! Counts of what was met.
 
 use crate::checker::{Place, Refusal, Verdict};
+use crate::damage::lines;
 use std::collections::BTreeMap;
 use std::fmt;
 
-/// How often each number, and each depth of an accepted one, was met.
+/// How often each number, each depth of an accepted certificate and each kind
+/// of line was met.
 #[derive(Clone, Debug, Default)]
 pub struct Tally {
     /// Refusals by number; answered calls as 0.
     pub numbers: BTreeMap<u8, u64>,
     /// Accepted certificates by depth.
     pub depths: BTreeMap<u8, u64>,
+    /// Lines that passed, of accepted and refused certificates, by kind.
+    pub kinds: BTreeMap<u8, u64>,
     /// The most lines of an accepted certificate.
     pub longest: u64,
     /// The highest line refused.
@@ -20,8 +24,9 @@ pub struct Tally {
 }
 
 impl Tally {
-    /// Counts a verdict.
-    pub fn verdict(&mut self, verdict: Verdict) {
+    /// Counts a verdict on a certificate.
+    pub fn verdict(&mut self, verdict: Verdict, certificate: &[u8]) {
+        self.passed(verdict, certificate);
         if let Ok(accepted) = verdict {
             *self.depths.entry(accepted.depth).or_default() += 1;
             let lines = u64::from(accepted.base) + u64::from(accepted.step);
@@ -37,6 +42,18 @@ impl Tally {
         self.answer(verdict.map(|_| ()));
     }
 
+    /// Counts the lines before the one that is refused.
+    fn passed(&mut self, verdict: Verdict, certificate: &[u8]) {
+        let count = match verdict.map_err(|refusal| refusal.place) {
+            Ok(_) | Err(Place::Base | Place::Step) => usize::MAX,
+            Err(Place::Line(line)) => line,
+            Err(_) => return,
+        };
+        for (_, line) in lines(certificate).take(count) {
+            *self.kinds.entry(line[0]).or_default() += 1;
+        }
+    }
+
     /// Counts an answer.
     pub fn answer(&mut self, answer: Result<(), Refusal>) {
         let number = answer.map_or_else(|refusal| refusal.number, |()| 0);
@@ -47,6 +64,11 @@ impl Tally {
     /// How often a number was met, 0 being accepted or answered.
     pub fn of(&self, number: u8) -> u64 {
         self.numbers.get(&number).copied().unwrap_or(0)
+    }
+
+    /// How many lines of this kind passed.
+    pub fn of_kind(&self, kind: u8) -> u64 {
+        self.kinds.get(&kind).copied().unwrap_or(0)
     }
 
     /// How many accepted certificates had this depth.
@@ -65,6 +87,7 @@ impl fmt::Display for Tally {
         if !self.depths.is_empty() {
             let (longest, deepest) = (self.longest, self.deepest);
             write!(f, "; accepted by depth {:?}", self.depths)?;
+            write!(f, ", lines passed by kind {:?}", self.kinds)?;
             write!(
                 f,
                 ", longest {longest} lines, deepest refused line {deepest}"

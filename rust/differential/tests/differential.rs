@@ -7,13 +7,15 @@ use differential::by_reference::Reference;
 use differential::cases::{self, Expected};
 use differential::checker::{Checker, Record};
 use differential::compare::{self, Origin};
-use differential::damage::Layout;
+use differential::damage::{lines, Layout};
 use differential::draft::MAX_BLOCKS;
+use differential::miscuts::WAYS;
 use differential::pool::{pool, Certified};
 use differential::random::Random;
 use differential::tally::Tally;
 use differential::twin::Twin;
 use differential::{forge, largest, passes};
+use reference::build::multiples;
 use reference::build::proof::{two_bands_certificate, two_bands_node};
 use std::collections::BTreeMap;
 use std::sync::LazyLock;
@@ -90,7 +92,7 @@ fn checked(
     if verdict.is_ok() && random.once_in(4) {
         holds(origin, random, &node);
     }
-    tally.verdict(verdict);
+    tally.verdict(verdict, &certificate);
 }
 
 #[test]
@@ -113,8 +115,11 @@ fn pairs() {
         "pairs, seed {seed}, {:.1} s: {tally}",
         since.elapsed().as_secs_f64()
     );
-    for number in (1..=8).chain(11..=21) {
+    for number in (1..=8).chain(11..=22) {
         assert!(tally.of(number) >= all / 2_000, "{number}: {tally}");
+    }
+    for kind in 1..=5 {
+        assert!(tally.of_kind(kind) >= all / 4, "kind {kind}: {tally}");
     }
     for depth in 1..=8 {
         assert!(tally.of_depth(depth) >= all / 500, "depth {depth}: {tally}");
@@ -161,7 +166,11 @@ fn every_field() {
         .find(|(_, c)| c.constraints.len() > 4)
         .expect("one");
     let two_bands = (two_bands_node(), two_bands_certificate());
-    for (node, certificate) in [&two_bands, counter] {
+    let by_cuts = (
+        multiples::node(2, 7),
+        multiples::certificate(2, 7, 1, multiples::bounds(2, 7)),
+    );
+    for (node, certificate) in [&two_bands, counter, &by_cuts] {
         let (node, certificate) = (node.bytes(), certificate.bytes());
         let layout = Layout::of_node(&node);
         for wrong in each_value(layout, &node) {
@@ -175,6 +184,7 @@ fn every_field() {
         }
     }
     println!("every field: {tally}");
+    assert!(tally.of(22) >= 50, "{tally}");
 }
 
 /// The file with each value in each field of each block.
@@ -229,9 +239,37 @@ fn forged_arguments() {
     println!("forged: {tally}");
     assert_eq!(tally.of(0), 0);
     assert!(
-        [17, 19, 20].iter().all(|number| tally.of(*number) > 500),
+        [17, 19, 20, 22]
+            .iter()
+            .all(|number| tally.of(*number) > 500),
         "{tally}"
     );
+}
+
+/// A proof among right cuts is accepted; with a cut spoiled in some way it is
+/// refused by the way's number. Each way is met often enough.
+#[test]
+fn spoiled_cuts() {
+    let mut tally = Tally::default();
+    let mut met = BTreeMap::new();
+    for case in 0..11_000 {
+        let origin = Origin { seed: 9, case };
+        let mut random = Random::of_case(9, case);
+        let way = WAYS.get(case as usize % (2 * WAYS.len()));
+        let Some((node, certificate)) = cases::among_cuts(&mut random, way) else {
+            continue;
+        };
+        let expected = way.map_or(Expected::Accepted, |way| Expected::Refused(way.number));
+        let pair = ((node.bytes(), certificate.bytes()), expected);
+        checked(origin, &mut random, pair, &mut tally);
+        *met.entry(way.map(|way| way.name)).or_insert(0) += 1;
+    }
+    println!("spoiled cuts: {tally}; {met:?}");
+    for way in &WAYS {
+        assert!(met.get(&Some(way.name)) >= Some(&50), "{}", way.name);
+    }
+    assert!(tally.of(0) > 4_000 && tally.of(22) > 3_000, "{tally}");
+    assert!(tally.of_kind(5) > 50_000, "{tally}");
 }
 
 /// Certificates that leave no room for one line more, and damaged copies.
@@ -239,10 +277,11 @@ fn forged_arguments() {
 fn largest_files() {
     let mut tally = Tally::default();
     let mut random = Random::new(6);
-    for case in 0..48 {
-        let kind = largest::KINDS[case % 4];
+    let kinds = [&largest::KINDS[..], &[largest::CUTS]].concat();
+    for case in 0..60 {
+        let kind = kinds[case % 5];
         let node = largest::node(&mut random, kind.ints);
-        let depth = 1 + (case / 4 % 8) as u8;
+        let depth = 1 + (case / 5 % 8) as u8;
         let certificate = largest::certificate(&mut random, &node, depth, kind, MAX_BLOCKS);
         let mut file = certificate.bytes();
         assert!(file.len() > 64_000, "{}", file.len());
@@ -291,21 +330,9 @@ fn every_clause() -> Vec<Clause> {
     listed.collect()
 }
 
-/// A certificate's lines, and whether each is a step line.
-fn lines(certificate: &[u8]) -> Vec<(bool, &[u8])> {
-    let Layout::Certificate(_, [_, base, step]) = Layout::of_certificate(0, certificate) else {
-        return Vec::new();
-    };
-    let front = &certificate[..certificate.len() - 16];
-    let blocks = front[front.len() - 80 * (base + step)..].chunks(80);
-    blocks
-        .enumerate()
-        .map(|(i, line)| (i >= base, line))
-        .collect()
-}
-
 /// Accepted certificates hold every clause of every operator in both parts,
-/// at first and later offsets, and kind 4 lines of 1 to 12 literals.
+/// at first and later offsets, and joins, arithmetic lines and cuts of 1 to 12
+/// literals.
 #[test]
 fn coverage() {
     let mut clauses: BTreeMap<Clause, u64> = BTreeMap::new();
@@ -339,14 +366,10 @@ fn coverage() {
     assert_eq!(clauses.len(), every_clause().len());
     for step in [false, true] {
         for count in 1..=12 {
-            assert!(
-                others.get(&(step, 4, count)).is_some_and(|met| *met >= 8),
-                "{count}"
-            );
-            assert!(
-                others.get(&(step, 3, count)).is_some_and(|met| *met >= 8),
-                "{count}"
-            );
+            for kind in 3..=5 {
+                let met = others.get(&(step, kind, count)).copied();
+                assert!(met >= Some(8), "{count} literals in kind {kind}");
+            }
         }
     }
 }

@@ -1,11 +1,13 @@
 //! Times of each checker on the same input in the same run: verdicts on large
-//! and small certificates, and instants of a node of 64 streams.
+//! and small certificates, instants of a node of 64 streams, and cuts beside
+//! arithmetic lines.
 //!
 //! `cargo run --offline --release --bin bench`; with
 //! `--no-default-features` the reference alone. The checkers take turns in
 //! many short rounds; a ratio is that of one round, so that what else the
 //! machine does meets both. Printed are medians, with the middle half.
 
+use differential::alike::{alike, Alike};
 use differential::by_reference::Reference;
 use differential::checker::{Checker, Record};
 use differential::draft::MAX_BLOCKS;
@@ -115,33 +117,83 @@ fn check(checker: &dyn Checker, node: &[u8], certificate: &[u8]) {
 }
 
 /// What a line costs in a certificate, and in one that has the same lines nine
-/// times over; in both without what the certificate costs with no lines.
+/// times over.
 fn a_line(kind: &str, node: &NodeFile, small: &CertificateFile) {
     let node = node.bytes();
     let often = repeated(small, 9);
     let (few, many) = (lines(small), lines(&often));
-    let [none, once, often] = [&repeated(small, 0), small, &often].map(CertificateFile::bytes);
+    let files = [&repeated(small, 0), small, &often].map(CertificateFile::bytes);
     for &checker in CHECKERS {
-        assert!(checker.check(&node, &often).is_ok());
-        let rounds = rounds(
-            &[&none, &once, &often]
-                .map(|bytes| -> Turn { Box::new(|| check(checker, &node, bytes)) }),
-        );
-        let cost =
-            |round: &Vec<f64>, i: usize, lines: usize| (round[i] - round[0]) * 1e9 / lines as f64;
-        let costs = |i: usize, lines: usize| rounds.iter().map(move |round| cost(round, i, lines));
-        let ratios = costs(1, few)
-            .zip(costs(2, many))
-            .map(|(once, often)| often / once);
-        let [ratio, low, high] = summary(ratios.collect());
+        assert!(checker.check(&node, &files[2]).is_ok());
+        let Costs {
+            a_line: [once, often],
+            ratio: [ratio, low, high],
+        } = costs(checker, &node, &files, [few, many]);
         println!(
-            "{:<40} {:<10} {:.1} ns a line of {few}, {:.1} of {many}: \
+            "{:<40} {:<10} {once:.1} ns a line of {few}, {often:.1} of {many}: \
              ratio {ratio:.2} ({low:.2} to {high:.2})",
             format!("{kind}: the same lines"),
             checker.name(),
-            summary(costs(1, few).collect())[0],
-            summary(costs(2, many).collect())[0]
         );
+    }
+}
+
+/// What lines cost in two certificates.
+struct Costs {
+    /// Nanoseconds a line, the medians.
+    a_line: [f64; 2],
+    /// The second's over the first's in the same round, with the middle half.
+    ratio: [f64; 3],
+}
+
+/// The costs of so many lines in the second and the third file, without what
+/// the first costs, which has none of them.
+fn costs(checker: &dyn Checker, node: &[u8], files: &[Vec<u8>; 3], lines: [usize; 2]) -> Costs {
+    let rounds = rounds(
+        &files
+            .each_ref()
+            .map(|file| -> Turn { Box::new(move || check(checker, node, file)) }),
+    );
+    let costs = |i: usize| {
+        let lines = lines[i] as f64;
+        rounds
+            .iter()
+            .map(move |round| (round[i + 1] - round[0]) * 1e9 / lines)
+    };
+    let ratios = costs(0).zip(costs(1)).map(|(first, second)| second / first);
+    Costs {
+        a_line: [0, 1].map(|i| summary(costs(i).collect())[0]),
+        ratio: summary(ratios.collect()),
+    }
+}
+
+/// What a cut costs beside the arithmetic line with the same literals, by
+/// literals and terms of each. A cut may cost 1.2 of it.
+fn cuts(random: &mut Random) {
+    for (literals, terms) in [(12, 8), (3, 2), (2, 2)] {
+        let Alike {
+            node,
+            none,
+            arithmetic,
+            cuts,
+            lines,
+        } = alike(random, literals, terms);
+        let size = format!("{literals} by {terms}");
+        verdict(&format!("sums {size}"), &node, &arithmetic);
+        verdict(&format!("cuts {size}"), &node, &cuts);
+        let files = [none, arithmetic, cuts].map(|certificate| certificate.bytes());
+        for &checker in CHECKERS {
+            let Costs {
+                a_line: [sum, cut],
+                ratio: [ratio, low, high],
+            } = costs(checker, &node.bytes(), &files, [lines; 2]);
+            println!(
+                "{:<40} {:<10} {cut:.1} ns a cut of {lines}, {sum:.1} an arithmetic line: \
+                 ratio {ratio:.2} ({low:.2} to {high:.2})",
+                format!("cuts {size}: beside arithmetic"),
+                checker.name(),
+            );
+        }
     }
 }
 
@@ -217,4 +269,5 @@ fn main() {
     reading(&mut random);
     verdicts(&mut random);
     instants(&mut random);
+    cuts(&mut random);
 }
