@@ -146,10 +146,18 @@ fn refusal_16_unused_fields() {
     let cut = right_lines()[2];
     assert_eq!(step(Line { p: 1, ..cut }), Err(16));
     assert_eq!(step(Line { q: 256, ..cut }), Err(16));
+}
+
+#[test]
+fn refusal_16_unused_multipliers() {
+    let [equation, arithmetic, cut] = right_lines()[..] else {
+        unreachable!()
+    };
     let first = u16::try_from(certificate(2).base.len()).unwrap();
     let join = Line::join(first + 1, first, lit(3, 2), &[]);
     assert_eq!(step(join), Ok(()));
-    for line in [right_lines()[0], property, join] {
+    let property = Line::property(2, &[263]);
+    for line in [equation, property, join] {
         for i in 0..12 {
             let mut wrong = line;
             wrong.multipliers[i] = 1;

@@ -244,17 +244,6 @@ fn lines() {
             "arithmetic times 20, 1 gives {c1, !c2}",
         ),
         (
-            Line::cut(2, &[(opp(on(1)), 20), (on(0), 3), (on(2), 0)]),
-            "cut by 2 times 20, 3, 0 gives {!c1, c0, c2}",
-        ),
-        (
-            Line {
-                q: 1,
-                ..Line::cut(65_535, &[(on(2), 0)])
-            },
-            "cut by 65535 times 0 gives {c2} [a field that should be 0 is not]",
-        ),
-        (
             Line {
                 kind: 7,
                 p: 1,
@@ -297,6 +286,23 @@ fn lines() {
         ..Line::property(0, &[65535; 12])
     };
     assert!(listed_block(None, Some(many)).ends_with(", !c32191} [literal count 13]"));
+}
+
+#[test]
+fn cuts() {
+    let cut = Line::cut(2, &[(opp(on(1)), 20), (on(0), 3), (on(2), 0)]);
+    assert_eq!(
+        listed_block(None, Some(cut)),
+        "line 0 step: cut by 2 times 20, 3, 0 gives {!c1, c0, c2}"
+    );
+    let wrong = Line {
+        q: 1,
+        ..Line::cut(65_535, &[(on(2), 0)])
+    };
+    assert_eq!(
+        listed_block(None, Some(wrong)),
+        "line 0 step: cut by 65535 times 0 gives {c2} [a field that should be 0 is not]"
+    );
 }
 
 #[test]

@@ -212,7 +212,7 @@ fn repeated_part(part: &[Line], times: usize, was: usize, is: usize) -> Vec<Line
     let turn = |turn: usize| {
         let moved = (is + turn * part.len() - was) as u16;
         part.iter().map(move |line| {
-            let mut line = line.clone();
+            let mut line = *line;
             if line.kind == 3 {
                 line.p += moved;
                 line.q += moved;
