@@ -4,6 +4,9 @@ from dataclasses import dataclass, replace
 
 from node_files import replaced
 
+# the greatest that a file may have; DIVISOR is a cut's r
+BOUND, COEFFICIENT, MULTIPLIER, DIVISOR = 100_000_000_000, 1_000_000_000, 1_000_000, 65_535
+
 
 def lit(stream, offset=0):
     """The literal of a bool stream at an offset."""
@@ -30,6 +33,12 @@ def constraint(terms, bound, count=None, zeros=b""):
     return struct.pack("<B7sq64s", count, zeros, bound, b"".join(terms))
 
 
+def at_most(coefficients, bound):
+    """A constraint by its coefficients, which stand by stream and offset."""
+    rising = sorted(coefficients.items(), key=lambda item: (item[0][1], item[0][0]))
+    return constraint([term(*variable, coefficient) for variable, coefficient in rising], bound)
+
+
 @dataclass(frozen=True)
 class Line:
     """A line; literals and multipliers past the count are unlisted ones, and what is not given is zero."""
@@ -46,6 +55,11 @@ class Line:
         literals = struct.pack(f"<{len(self.literals)}H", *self.literals)
         multipliers = struct.pack(f"<{len(self.multipliers)}I", *self.multipliers)
         return struct.pack("<BBHHH24s48s", self.kind, count, self.p, self.q, self.r, literals, multipliers)
+
+
+def cut(others, last, r, times=None):
+    """A kind 5 line: opposites of the others, times multipliers, over r give the last; each multiplier 1 where none are given."""
+    return Line(5, r=r, literals=(*others, last), multipliers=(*(times or (1,) * len(others)), 0))
 
 
 def trailer(depth, constraints, base, step, distance=None, first=0x4B, second=0x43, version=1, zeros=0):
@@ -97,8 +111,7 @@ class Proof:
 
     def at_most(self, coefficients, bound):
         """The literal of this constraint, coefficients by stream and offset; one that is not there yet is added."""
-        terms = sorted(coefficients.items(), key=lambda item: (item[0][1], item[0][0]))
-        packed = constraint([term(*variable, coefficient) for variable, coefficient in terms], bound)
+        packed = at_most(coefficients, bound)
         if packed not in self.constraints:
             self.constraints.append(packed)
         return on(self.constraints.index(packed))
@@ -129,7 +142,15 @@ class Proof:
             line = self.join(line, other, r)
         return line
 
+    def against(self, lines):
+        """The opposites of the constraints of these lines, one in each."""
+        return [opp(literal) for line in lines for literal in self.lines[line].literals if literal >= on(0)]
+
     def clash(self, *lines, times=None):
         """The constraints of these lines, one in each, can't hold together: what the lines have besides them."""
-        used = [literal for line in lines for literal in self.lines[line].literals if literal >= on(0)]
-        return self.strike(self.arithmetic(*map(opp, used), times=times), *lines)
+        return self.strike(self.arithmetic(*self.against(lines), times=times), *lines)
+
+    def cut(self, lines, last, r):
+        """The sum of the constraints of these lines, one in each, over r is the last: it and what the lines have besides them."""
+        self.lines.append(cut(self.against(lines), last, r))
+        return self.strike(len(self.lines) - 1, *lines)

@@ -7,12 +7,15 @@ Each case gives a node file, a certificate file and the verdict line, written do
 any checker. The files go to crates/check_pairs/data, the names, node and certificate in turn, to args and the lines to stdout
 beside it. The data and stdout of crates/check_certificate are written too.
 """
+import cut_cases
 import example_proofs
+import parity_proofs
 from booking_proofs import LATE, base_for_step, start_only
-from certificate_files import Certificate, Line, Proof, constraint, lit, on, opp, term, trailer
+from certificate_files import (BOUND, COEFFICIENT, MULTIPLIER, Certificate, Line, Proof, constraint, cut, lit, on, opp, term,
+                               trailer)
 from node_files import BOOL, INPUT, INT, TWO_BANDS, node, rec, replaced, write_data, write_lines
 
-NODES = dict(example_proofs.NODES)
+NODES = {**example_proofs.NODES, **parity_proofs.NODES}
 CASES = []
 # Of depth 1. Base lines 0 to 11 and step lines 12 to 23; no constraints.
 BANDS = example_proofs.two_bands()
@@ -21,7 +24,6 @@ BANDS = example_proofs.two_bands()
 COUNTER = example_proofs.counter(1)
 # Of depth 2. Line 0 is {!1 at 0, !1 at 1}; the step is 9 {!1 at 2}, 10 and 11 equations at 2 and 1, 12 {1 at 0}, joins.
 DELAYED = example_proofs.delayed()
-BOUND, COEFFICIENT, MULTIPLIER = 100_000_000_000, 1_000_000_000, 1_000_000
 # "0 at most 0"
 FILLER = constraint([], 0)
 
@@ -62,6 +64,9 @@ def whole_proofs():
     accepted("absolute", "absolute", example_proofs.absolute(), 1, 20, 20)
     accepted("itself", "itself", example_proofs.itself(), 1, 5, 5)
     accepted("mirror", "mirror", example_proofs.mirror(), 1, 6, 6)
+    accepted("pairs-of-minutes", "pairs-of-minutes", parity_proofs.pairs_of_minutes(), 1, 34, 34)
+    without_cuts = parity_proofs.pairs_of_minutes(halve=parity_proofs.by_arithmetic)
+    accepted("pairs-of-minutes-without-cuts", "pairs-of-minutes", without_cuts, 1, 34, 34)
     # 44 clauses an offset; 36 at step offset 0
     accepted("all-operators", "all-operators", example_proofs.all_operators(), 2, 92, 128)
 
@@ -205,7 +210,7 @@ def of_constraints():
 
 def of_any_kind():
     bands("16-kind-0", BANDS.changed(0, kind=0), 16, "line 0")
-    counter("16-kind-5", COUNTER.changed(3, kind=5), 16, "line 3")
+    counter("16-kind-6", COUNTER.changed(3, kind=6), 16, "line 3")
     bands("16-kind-255-in-step", BANDS.changed(12, kind=255), 16, "line 12")
     bands("16-13-literals", BANDS.changed(4, count=13), 16, "line 4")
     bands("16-255-literals-in-step", BANDS.changed(16, count=255), 16, "line 16")
@@ -335,6 +340,39 @@ def of_arithmetic():
     extra("literals-repeated", (opp(on(0)), opp(on(1)), opp(on(0))), (1, 1, 1))
 
 
+def cut_in_base(half):
+    """The base's first line is a cut, on constraints at offset 1."""
+    proof = Proof(1)
+    proof.lines.append(cut([opp(proof.at_most({(0, 1): 2}, 5))], proof.at_most({(0, 1): 1}, half), 2))
+    example_proofs.itself_part(proof, 0)
+    proof.begin_step()
+    example_proofs.itself_part(proof, 1)
+    return proof.certificate()
+
+
+def of_cuts():
+    """Most are one line more after the counter's, in the step. A cut cites no line."""
+    def after(line, constraints, *lines):
+        return COUNTER.more(line, *lines, constraints=constraints)
+
+    for name, pair in cut_cases.right().items():
+        accepted(f"cut-{name}", "counter", after(*pair), 1, 7, 22)
+    accepted("cut-in-base", "itself", cut_in_base(2), 1, 6, 5)
+    for name, pair in cut_cases.of_no_shape().items():
+        counter(f"16-cut-{name}", after(*pair), 16, "line 28")
+    for name, pair in cut_cases.wrong().items():
+        counter(f"22-{name}", after(*pair), 22, "line 28")
+    refused("22-in-base", "itself", cut_in_base(3), 22, "line 0")
+    counter("22-arithmetic-as-cut", COUNTER.changed(3, kind=5), 22, "line 3")
+
+    # line by line
+    wrong = cut_cases.alone(1)
+    counter("20-at-line-28-before-22-at-line-29", COUNTER.more(Line(4), wrong[0], constraints=wrong[1]), 20, "line 28")
+    counter("22-at-line-28-before-20-at-line-29", after(*wrong, Line(4)), 22, "line 28")
+    counter("22-at-line-28-before-16-at-line-29", after(*wrong, Line(6)), 22, "line 28")
+    counter("22-before-21", after(*wrong).changed(6, literals=(lit(4),)), 22, "line 28")
+
+
 def of_parts():
     no_base = Proof(1)
     no_base.begin_step()
@@ -370,7 +408,8 @@ def both_signs_struck():
 
 
 def false_turns():
-    """The properties of the late nodes and of the wish fail. The counter's holds, but not by lines that drop the -1."""
+    """The properties of the late nodes, of the wish and of the forged pairs fail. The counter's holds, but not by lines that
+    drop the -1."""
     # 3 = true -> pre 2 fails at instant 2, where 2 = true -> pre 1 or true -> 1, an input
     NODES["late"] = node(LATE, 3)
     NODES["late-arrow"] = node(replaced(LATE, 2, rec(12, BOOL, 0, 1)), 3)
@@ -383,11 +422,14 @@ def false_turns():
         constraints=[not_below]), 20, "line 3")
     refused("false-turn-both-signs-struck", "wish", both_signs_struck(), 19, "line 3")
     refused("false-turn-step-cites-base", "late", base_for_step(), 19, "line 6")
+    refused("false-turn-cut-below-floor", "forged-pairs", parity_proofs.forged(), 22, "line 58")
+    forged = parity_proofs.pairs_of_minutes(2, parity_proofs.by_arithmetic)
+    refused("false-turn-without-cuts", "forged-pairs", forged, 20, "line 58")
 
 
 def main():
     for cases in (whole_proofs, allowed, of_the_node, of_the_file, of_constraints, of_any_kind, of_equations, of_properties,
-                  of_joins, of_arithmetic, of_parts, false_turns):
+                  of_joins, of_arithmetic, of_cuts, of_parts, false_turns):
         cases()
     nodes = {f"{name}.node": data for name, data in NODES.items()}
     write_data("check_pairs", {**nodes, **{name: data for _, name, data, _ in CASES}})
