@@ -11,10 +11,11 @@ from dataclasses import dataclass
 
 import booking_proofs
 import example_proofs
+import parity_proofs
 from certificate_files import Certificate
 from node_files import ROOT, node
 
-NODES = {**example_proofs.NODES, **booking_proofs.NODES, "forged": node(booking_proofs.LATE, 3)}
+NODES = {**example_proofs.NODES, **booking_proofs.NODES, **parity_proofs.NODES, "forged": node(booking_proofs.LATE, 3)}
 TYPES = ("bool", "int")
 # by operator
 EQUATIONS = ("input", "{k}", "not {a}", "{a} and {b}", "{a} or {b}", "{a} same as {b}", "{a} + {b}", "{a} - {b}", "{k} * {a}",
@@ -23,7 +24,8 @@ EQUATIONS = ("input", "{k}", "not {a}", "{a} and {b}", "{a} or {b}", "{a} same a
 
 @dataclass(frozen=True)
 class Example:
-    """Streams are names and what they are, in record order. The texts are those of the folder's page."""
+    """Streams are names and what they are, in record order. The texts are those of the folder's page. Rows on lines are those of
+    the base, those of the step and what they say."""
     name: str
     title: str
     books: str
@@ -33,6 +35,8 @@ class Example:
     argument: str
     certificate: Certificate
     verdict: str
+    lines: tuple = ()
+    aside: str = ""
 
     def equations(self):
         """The rows of a table, one a stream, from the records of the node file; a stream is called by its name."""
@@ -43,15 +47,32 @@ class Example:
             equation = EQUATIONS[op].format(a=names[a], b=names[b], c=names[c], k=constant)
             yield f"| {i} | {TYPES[kind]} | `{name}` = {equation} | {meaning} |"
 
+    def listing(self):
+        """The table of lines, where there is one."""
+        rows = [f"| {' | '.join(row)} |" for row in self.lines]
+        return "\n".join(["| Base | Step | What the lines say |", "|---|---|---|", *rows]) if rows else ""
+
     def page(self):
         table = ["| Stream | Type | Equation | What it is |", "|---|---|---|---|", *self.equations()]
         parts = [f"# {self.title}", wrapped(self.books), "\n".join(table), wrapped(f"Property: {self.prop}"),
-                 wrapped(f"Depth: {self.depth}"), wrapped(f"Certificate: {self.argument}"), f"Verdict: `{self.verdict}`"]
-        return "\n\n".join(parts) + "\n"
+                 wrapped(f"Depth: {self.depth}"), wrapped(f"Certificate: {self.argument}"), self.listing(), wrapped(self.aside),
+                 f"Verdict: `{self.verdict}`"]
+        return "\n\n".join(part for part in parts if part) + "\n"
 
 
 def wrapped(text):
     return textwrap.fill(" ".join(text.split()), 125)
+
+
+PAIRS = (("slot", "a booking's pair of minutes, any whole number"), ("turn", "a tone's pair of minutes"),
+         ("start", "the minute that the booking begins at"), ("pair", "the minute that the tone's pair begins at"),
+         ("one", "a constant"), ("{later}", "a constant"), ("lead", "how many minutes after its pair's first one a tone is sent"),
+         ("tone", "the minute that it is sent at"), ("meets", "the booking begins in the tone's minute"), ("fine", "the property"))
+
+
+def pairs(later):
+    """The streams of the two nodes with pairs of minutes."""
+    return tuple((name.format(later=later), meaning) for name, meaning in PAIRS)
 
 
 EXAMPLES = (
@@ -158,6 +179,40 @@ EXAMPLES = (
         offset 8 is what station 7 had at 7, and so on down to station 1 at 1, which is what station 8 had at offset 0.""",
         example_proofs.ring(1, 8), "accepted depth 8 base 75 step 19"),
     Example(
+        "pairs-of-minutes", "Pairs of minutes",
+        """A dish is booked in pairs of minutes: the booking of slot s begins at minute 2s. A tone that would spoil its first
+        minute is sent at odd minutes: in turn t at minute 2t + 1, and at minute 2t + 3 after the first instant, when the
+        tone's clock is put two minutes on. Slots and turns are any whole numbers, at each instant other ones.""",
+        pairs("three"),
+        "no booking begins in a tone's minute.",
+        "1. Nothing is remembered from one instant to the next.",
+        """the argument is one of parity: twice a whole number is even, 2t + 1 and 2t + 3 are odd, and no number is both. To add
+        the constraints up doesn't show it, for half a slot after t, 2s is 2t + 1. A cut does: a whole number that is at most a
+        half is at most 0. If the two minutes were equal, 2s - 2t would be at most 1, so s - t at most 0, the half of 1 rounded
+        down; and 2t - 2s would be at most -1, so t - s at most -1, the half of -1 rounded down. Added up, 0 is at most -1. A
+        line of kind 5 says each of the two: r is 2, its last literal is the constraint on s - t or t - s, and the others are
+        the negations of the constraints that are added up. In the step it is 3 in place of 1, and the halves are 1 and -2.""",
+        parity_proofs.pairs_of_minutes(), "accepted depth 1 base 34 step 34",
+        (("0 to 2", "34 to 36", "`{meets}`: the property fails"),
+         ("3, 4", "37, 38", "`start` is at most `tone`"),
+         ("5 to 9", "39 to 43", "equations: 2 `slot` is at most `start`; `tone` at most `pair` + `lead`; `pair` at most 2 `turn`; "
+          "`lead` at most `one`, and `one` at most 1 (step: `three`, 3)"),
+         ("10", "44", "cut, r = 2: the sum of these six is 2 `slot` - 2 `turn` at most 1 (step: 3), so `slot` - `turn` is at most "
+          "0 (step: 1), or one of the six doesn't hold"),
+         ("11 to 16", "45 to 50", "joins with the six: `slot` - `turn` is at most 0 (step: 1)"),
+         ("17, 18", "51, 52", "`tone` is at most `start`"),
+         ("19 to 23", "53 to 57", "equations: those of 5 to 9 the other way round"),
+         ("24", "58", "cut, r = 2: the sum is 2 `turn` - 2 `slot` at most -1 (step: -3), so `turn` - `slot` is at most -1 "
+          "(step: -2)"),
+         ("25 to 30", "59 to 64", "joins: `turn` - `slot` is at most -1 (step: -2)"),
+         ("31", "65", "arithmetic: lines 16 and 30 (step: 50 and 64) don't hold both"),
+         ("32, 33", "66, 67", "joins: `{ }`")),
+        """Kind 4 and joins can say every cut too, and in as many lines: a line of kind 4 with the same literals and multipliers,
+        but r for the last one, has the same clause. Here, twice "`slot` - `turn` is at least 1" can't stand beside
+        "2 `slot` - 2 `turn` is at most 1"; that "not at most 0" is "at least 1" is where kind 4 knows that numbers are whole.
+        Written so, this certificate is accepted with 34 and 34 lines, 0 more. What kind 5 adds is that a solver's cut stands
+        there as the solver made it, divided and rounded, with the least bound that follows."""),
+    Example(
         "forged", "A forged certificate",
         """A licence office says at each instant whether a licence is valid, and its word takes two instants to arrive at the
         booking desk. Until then the desk takes the licence to be valid.""",
@@ -170,6 +225,21 @@ EXAMPLES = (
         instant 0". The step may not say that: its offset 0 is any instant. A join takes lower lines of its own part, so line 6
         is refused with 19. A checker that looks up cited lines without asking for their part would accept a false property.""",
         booking_proofs.base_for_step(), "refused 19 line 6"),
+    Example(
+        "forged-pairs", "A forged cut",
+        """The node of pairs-of-minutes, but the tone's clock is put only one minute on: after the first instant the tone of
+        turn t is sent at minute 2t + 2, which is even.""",
+        pairs("two"),
+        """no booking begins in a tone's minute. This is false: at instant 1 the booking of slot 1 begins at minute 2, and the
+        tone of turn 0 is sent then.""",
+        "1, but no depth would do.",
+        """its lines are those of pairs-of-minutes, byte for byte, and its constraints too, but for two: where those say that
+        `three` is at most 3, and at least, these say that `two` is at most 2, and at least. The base is sound. So is the
+        step's first cut, line 44: 2 `slot` - 2 `turn` is at most 2, and half of that is 1. The second one, line 58, has
+        2 `turn` - 2 `slot` at most -2, so `turn` - `slot` is at most -1, but says at most -2, as if there were something to
+        round down. All lines after it would stand, up to the empty one: a checker that doesn't look at the bound of a cut
+        would accept a false property. As a line of kind 4 it would be refused with 20.""",
+        parity_proofs.forged(), "refused 22 line 58"),
 )
 
 PAGE = """# Examples

@@ -13,6 +13,9 @@ use reference::session::{begin, instant, Record as Session};
 use std::fs;
 use std::process::Command;
 
+/// The folders that are refused, by name.
+const FORGED: [&str; 2] = ["forged", "forged-pairs"];
+
 #[test]
 fn every_verdict_is_as_written() {
     for folder in all() {
@@ -57,12 +60,12 @@ fn every_page_gives_the_verdict() {
 }
 
 #[test]
-fn only_one_is_refused() {
+fn only_the_forged_are_refused() {
     let folders = all();
     let refused = |folder: &&Folder| !folder.verdict.starts_with("accepted");
     let names: Vec<&str> = folders.iter().filter(refused).map(Folder::name).collect();
-    assert_eq!(names, ["forged"]);
-    assert_eq!(folders.len(), 8);
+    assert_eq!(names, FORGED);
+    assert_eq!(folders.len(), 10);
 }
 
 /// Inputs for one instant.
@@ -80,7 +83,8 @@ fn draw(random: &mut Random, node: &Node) -> Vec<i64> {
 #[test]
 fn the_property_of_an_accepted_one_holds() {
     let mut random = Random::new(20);
-    for folder in all().iter().filter(|folder| folder.name() != "forged") {
+    let accepted = |folder: &&Folder| !FORGED.contains(&folder.name());
+    for folder in all().iter().filter(accepted) {
         let node = node::read(&folder.node).unwrap();
         for _ in 0..50 {
             let mut session = Session::new();
