@@ -1,6 +1,6 @@
 """Kind 5 lines at each limit and one past it, each with its constraints, the first of which is number FIRST.
 
-Which of them are cuts is written down from the published rules and computed by nothing.
+Which of them are cuts is written down from the published rules and not computed by any checker.
 """
 from dataclasses import replace
 
@@ -23,7 +23,8 @@ def difference(times, bound):
 
 
 def of(premises, last, r, times=None, **fields):
-    """The line of the last constraint from all the premises, and these; `fields` are those of the line that shall be else."""
+    """The line of the last constraint from the premises, and all of these; `fields` are those of the line that shall say
+    something else."""
     others = [opp(at(i)) for i in range(len(premises))]
     return replace(cut(others, at(len(premises)), r, times), **fields), [*premises, last]
 
@@ -33,11 +34,12 @@ def by_3(bound, third):
     return of([difference(3, bound)], difference(1, third), 3)
 
 
-def greatest(bound=BOUND, r=DIVISOR):
-    """Twelve literals; five times the greatest coefficients and bounds, five times the least, and DIVISOR thousandths of them."""
-    premises = [at_most({X: sign * COEFFICIENT}, sign * BOUND) for sign in (1, -1) for _ in range(5)]
-    premises.append(at_most({X: 1000 * DIVISOR}, BOUND // MULTIPLIER * DIVISOR))
-    return of(premises, at_most({X: COEFFICIENT}, bound), r, (MULTIPLIER,) * 11)
+def greatest(sign=1, less=0, r=DIVISOR):
+    """Twelve literals: the greatest coefficients and bounds from five times themselves, five times the least, and DIVISOR
+    millionths; or, with sign -1, the least ones. `less` is taken off the bound."""
+    ends = [at_most({X: end * COEFFICIENT}, end * BOUND) for end in (sign, -sign) for _ in range(5)]
+    share = at_most({X: sign * COEFFICIENT // MULTIPLIER * DIVISOR}, sign * BOUND // MULTIPLIER * DIVISOR)
+    return of([*ends, share], at_most({X: sign * COEFFICIENT}, sign * BOUND - less), r, (MULTIPLIER,) * 11)
 
 
 def sums(sign):
@@ -71,7 +73,7 @@ def right():
         "terms-that-cancel": of([difference(1, 2), at_most({X: 1, Y: 1}, 3)], at_most({X: 1}, 2), 2),
         "eight-variables": of([at_most({v: 2 for v in VARIABLES}, 3)], at_most({v: 1 for v in VARIABLES}, 1), 2),
         "alone": alone(0), "alone-r-65535": alone(0, DIVISOR),
-        "twelve-literals-greatest": greatest(),
+        "twelve-literals-greatest": greatest(), "twelve-literals-least": greatest(-1),
     }
 
 
@@ -83,7 +85,7 @@ def wrong_bounds():
         "minus-1-of-opposite-dropped": both_signs(5),
         "bound-2-to-the-32": of([at_most({}, 1 << 32)], at_most({}, 0), 1),
         "alone-0-at-most-1": alone(1), "alone-0-at-most-minus-1": alone(-1), "alone-0-at-most-minus-1-r-65535": alone(-1, DIVISOR),
-        "greatest-bound-one-less": greatest(bound=BOUND - 1),
+        "greatest-bound-one-less": greatest(less=1),
     }
 
 
