@@ -35,7 +35,7 @@ pub enum Named {
     Missing,
 }
 
-// Where a window an equation stands: at its first offset as instant 0, at its first offset as any instant, or later.
+// Where in a window an equation stands: at its first offset as instant 0, at its first offset as any instant, or later.
 pub enum Position {
     Opening,
     Unsure,
