@@ -1,15 +1,8 @@
-pub mod Adding
-pub mod Checkables
 pub mod Coefficients
-pub mod Cutting
-pub mod Deciding
 pub mod LineFacts
-pub mod Named
 pub mod NodeFacts
 pub mod Openings
 pub mod PartFacts
 pub mod Saying
 pub mod SlotHalves
 pub mod Standing
-pub mod Turns
-pub mod Words

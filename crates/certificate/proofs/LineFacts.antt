@@ -11,7 +11,7 @@ use Rattle.node.specs.Equations.{typeAt, equationAt}
 use Rattle.node.specs.Layout.{streamsOf, propertyOf, recordsOf}
 use Rattle.node.proofs.FileRules.{sizes}
 use Rattle.constraints.specs.declared.layout.LineHead.{LineHead}
-use Rattle.constraints.specs.Layout.{Line, trailerOf, lineHeadAt, lineAt, lineOf, constraintOf}
+use Rattle.constraints.specs.Layout.{Line, trailerOf, lineHeadAt, lineAt, lineOf, constraintOf, constraintsFrom, lineWith}
 use Rattle.constraints.specs.Rules.{Types, typesOf}
 use Rattle.rules.specs.Arithmetic.{arithmeticOk}
 use Rattle.rules.specs.Cuts.{cutOk}
@@ -24,13 +24,12 @@ use Rattle.rules.proofs.LineParts.{from-is}
 use Rattle.rules.proofs.ShapeFacts.{ShapeFacts, shape-facts}
 use Rattle.certificate.specs.declared.frame.Frame.{Frame}
 use Rattle.certificate.specs.Content.{Readable}
-use Rattle.certificate.specs.Checkable.{Checkable}
+use Rattle.arithmetic.specs.Checkable.{Checkable}
 use Rattle.certificate.specs.Checking.{Checking}
 use Rattle.certificate.specs.Constants.{ConstantsLimited}
 use Rattle.certificate.specs.Frame.{frameOf, partIn}
-use Rattle.certificate.specs.Ready.{lineWith, linesAt, LinesReady}
-use Rattle.certificate.specs.Sums.{constraintsFrom}
-use Rattle.certificate.proofs.Checkables.{checkable}
+use Rattle.certificate.specs.Ready.{linesAt, LinesReady}
+use Rattle.arithmetic.proofs.Checkables.{checkable}
 use Rattle.certificate.proofs.NodeFacts.{constants-limited}
 
 -- the lines of a frame are the file's

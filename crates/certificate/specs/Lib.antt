@@ -1,8 +1,6 @@
-pub mod Checkable
 pub mod Checking
 pub mod Constants
 pub mod Content
 pub mod Frame
 pub mod Ready
 pub mod Slots
-pub mod Sums

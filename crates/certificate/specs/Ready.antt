@@ -5,10 +5,6 @@ use lib.ListN.{length}
 use Rattle.constraints.specs.declared.layout.LineHead.{LineHead}
 use Rattle.constraints.specs.Layout.{Line, literalAt, multiplierAt, lineAt}
 
--- the line at an offset whose head was read
-abbrev pub lineWith : List ℕ → (at : ℕ) → LineHead → Line
-lineWith s at h = record { head = h; literal = literalAt s at; multiplier = multiplierAt s at }
-
 -- the lines of a file whose line 0 stands at an offset
 abbrev pub linesAt : List ℕ → (lines i : ℕ) → Line
 linesAt s lines i = lineAt s (lines + 80 * i)

@@ -1,9 +1,9 @@
 // Rule 15, of a constraint and of all.
-use crate::frame::block_at;
-use crate::layout::constraint_head;
-use crate::layout::term_at;
 use answers::Found;
 use constraints::Term;
+use constraints::block_at;
+use constraints::constraint_head;
+use constraints::term_at;
 use constraints::type_at;
 ghost use Prim.Native.Nat.{_+_, _*_, _<_, _≤_};
 ghost use mathlib.Core.Path.{_≡_};

@@ -1,6 +1,6 @@
 // "constraints .. compared by content": a constraint of the file against one of a clause.
-use crate::layout::constraint_head;
-use crate::layout::term_at;
+use constraints::constraint_head;
+use constraints::term_at;
 use constraints::var;
 use rules::Linear;
 ghost use Prim.Native.Nat.{_+_, _<_, _≤_};

@@ -1,9 +1,9 @@
 // Rule 17: equation lines.
 use crate::frame::Frame;
-use crate::layout::line_head;
-use crate::layout::literal_at;
 use crate::matching::matches;
 use clauses::clause_of;
+use constraints::line_head;
+use constraints::literal_at;
 use node::equation_among;
 use node::type_among;
 use rules::Clause;
@@ -14,11 +14,10 @@ ghost use mathlib.Core.Path.{_≡_};
 ghost use lib.ListN.{length};
 ghost use Rattle.node.specs.Equations.{typeAt, equationAt};
 ghost use Rattle.node.specs.Layout.{recordsOf};
-ghost use Rattle.constraints.specs.Layout.{lineAt};
+ghost use Rattle.constraints.specs.Layout.{lineAt, constraintsFrom};
 ghost use Rattle.rules.specs.Lines.{clauseIs, positionOf, equationIn};
 ghost use Rattle.clauses.specs.Limits.{SmallPattern};
 ghost use Rattle.certificate.specs.Content.{Readable};
-ghost use Rattle.certificate.specs.Sums.{constraintsFrom};
 ghost use Rattle.certificate.specs.Constants.{ConstantsLimited};
 
 // The literals of the line at an offset are those of a clause, in its order.

@@ -1,9 +1,9 @@
 // The certificate's note, handed back as the leading part of the caller's slice.
 use crate::frame::start_of;
-use crate::layout::trailer_of;
 use constraints::counts_ok;
 use constraints::distance_ok;
 use constraints::fixed_ok;
+use constraints::trailer_of;
 use node::length_ok;
 ghost use mathlib.Core.Path.{_≡_};
 ghost use lib.ListN.{take};

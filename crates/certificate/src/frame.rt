@@ -1,5 +1,6 @@
 // What never changes while lines are checked, read once and passed by value.
 use constraints::Trailer;
+use constraints::block_at;
 ghost use Prim.Native.Nat.{_+_, _*_, _≤_};
 ghost use mathlib.Core.Path.{_≡_};
 ghost use lib.ListN.{length};
@@ -18,14 +19,6 @@ pub struct Frame {
     pub lines: usize,
     pub streams: usize,
     pub property: u16,
-}
-
-// Where block i stands of those from an offset on: a constraint, or a line.
-pub fn block_at(from: usize, i: usize) -> usize
-    requires { ⌜ Fits w64 (from + 80 * i) ⌝ }
-    ensures { λ r. ⌜ r ≡ from + 80 * i ⌝ }
-{
-    from + 80 * i
 }
 
 // Where constraint 0 stands, which is where the note ends.

@@ -1,8 +1,8 @@
 // Rule 19: joins.
-use crate::frame::block_at;
-use crate::layout::line_head;
 use crate::search::covers;
 use crate::search::stands_from;
+use constraints::block_at;
+use constraints::line_head;
 use literals::Literal;
 ghost use Prim.Native.Nat.{_+_, _*_, _<_, _≤_};
 ghost use mathlib.Core.Path.{_≡_};

@@ -1,16 +1,16 @@
 // The rules of one line, 16 before its kind's.
-use crate::arithmetic::arithmetic_ok;
-use crate::cuts::cut_ok;
 use crate::equations::equation_ok;
 use crate::frame::Frame;
-use crate::frame::block_at;
 use crate::joins::join_ok;
-use crate::layout::line_head;
 use crate::property::base_property_ok;
 use crate::property::step_property_ok;
 use crate::refusals;
 use crate::shape::shape_ok;
+use arithmetic::arithmetic_ok;
+use arithmetic::cut_ok;
 use constraints::LineHead;
+use constraints::block_at;
+use constraints::line_head;
 use rules::Position;
 ghost use Prim.Native.Nat.{ℕ, _+_, _*_, _<_, _≤_};
 ghost use mathlib.Core.Path.{_≡_};
@@ -18,15 +18,14 @@ ghost use mathlib.Core.Bool.{true, cond};
 ghost use lib.IntN.{pos};
 ghost use lib.ListN.{length, replicate};
 ghost use Rattle.node.specs.Equations.{typeAt, equationAt};
-ghost use Rattle.constraints.specs.Layout.{lineHeadAt, lineAt};
+ghost use Rattle.constraints.specs.Layout.{lineHeadAt, lineAt, constraintsFrom, lineWith};
 ghost use Rattle.constraints.specs.Rules.{typesOf};
 ghost use Rattle.rules.specs.Joins.{joinOk};
 ghost use Rattle.rules.specs.Lines.{equationIn};
 ghost use Rattle.rules.specs.Verdict.{typesOfNode, shapePasses, ownFault, lineFault, linePasses};
 ghost use Rattle.certificate.specs.Checking.{Checking};
 ghost use Rattle.certificate.specs.Frame.{partIn};
-ghost use Rattle.certificate.specs.Ready.{LinesReady, lineWith, linesAt};
-ghost use Rattle.certificate.specs.Sums.{constraintsFrom};
+ghost use Rattle.certificate.specs.Ready.{LinesReady, linesAt};
 
 // Rule 17, of line i, which stands at an offset.
 fn equation_passes(node: &[u8], cert: &[u8], f: Frame, at: usize, i: usize) -> bool

@@ -1,6 +1,6 @@
 // A literal of a line against one of a clause.
 use crate::content::same_content;
-use crate::frame::block_at;
+use constraints::block_at;
 use literals::Literal;
 use rules::Linear;
 use rules::Pattern;

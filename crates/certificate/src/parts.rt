@@ -1,6 +1,6 @@
 // Rule 21: each part has some line without literals.
-use crate::frame::block_at;
-use crate::layout::line_head;
+use constraints::block_at;
+use constraints::line_head;
 ghost use Prim.Native.Nat.{_+_, _*_, _≤_};
 ghost use mathlib.Core.Path.{_≡_};
 ghost use mathlib.Core.Bool.{not};

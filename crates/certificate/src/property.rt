@@ -1,15 +1,14 @@
 // Rule 18: property lines.
-use crate::layout::literal_at;
 use constraints::LineHead;
+use constraints::literal_at;
 use constraints::var;
 use literals::Literal;
 ghost use Prim.Native.Nat.{_+_, _<_, _≤_};
 ghost use mathlib.Core.Path.{_≡_};
 ghost use lib.ListN.{length};
 ghost use Rattle.answers.specs.Checks.{every};
-ghost use Rattle.constraints.specs.Layout.{literalAt};
+ghost use Rattle.constraints.specs.Layout.{literalAt, lineWith};
 ghost use Rattle.rules.specs.Lines.{notPropertyAt, basePropertyOk, stepPropertyOk};
-ghost use Rattle.certificate.specs.Ready.{lineWith};
 
 // The first k literals of the line at an offset are not-prop at offsets 0 to k - 1.
 fn are_not_property(file: &[u8], at: usize, k: usize, prop: u16) -> bool

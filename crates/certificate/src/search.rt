@@ -1,5 +1,5 @@
 // Literals looked up in the lines of a certificate.
-use crate::layout::literal_at;
+use constraints::literal_at;
 use literals::Literal;
 ghost use Prim.Native.Nat.{_+_, _-_, _≤_};
 ghost use mathlib.Core.Path.{_≡_};

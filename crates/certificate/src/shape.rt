@@ -1,17 +1,17 @@
 // Rule 16: the shape of a line.
-use crate::layout::literal_at;
-use crate::layout::multiplier_at;
+use arithmetic::is_multiplier;
 use constraints::LineHead;
+use constraints::literal_at;
+use constraints::multiplier_at;
 use constraints::type_at;
 ghost use Prim.Native.Nat.{_+_, _<_, _≤_};
 ghost use mathlib.Core.Path.{_≡_};
 ghost use lib.ListN.{length};
 ghost use Rattle.answers.specs.Checks.{every};
-ghost use Rattle.constraints.specs.Layout.{literalAt, multiplierAt};
+ghost use Rattle.constraints.specs.Layout.{literalAt, multiplierAt, lineWith};
 ghost use Rattle.constraints.specs.Rules.{typesOf};
 ghost use Rattle.rules.specs.Literals.{namesAtom};
 ghost use Rattle.rules.specs.Lines.{multiplierOk, slotOk, numbersOk, shapeOk};
-ghost use Rattle.certificate.specs.Ready.{lineWith};
 ghost use Rattle.certificate.specs.Slots.{listedOk, unusedOk};
 
 // The number names an atom, at depth k with m constraints.
@@ -26,11 +26,11 @@ fn names_atom(types: &[u8], k: u8, m: usize, atom: usize) -> bool
 }
 
 // A listed literal's multiplier: from 1 to 1,000,000 in an arithmetic line, any in a cut (rule 22 looks at it), 0 in any other.
-pub fn is_multiplier(kind: u8, multiplier: u32) -> bool
+fn multiplier_ok(kind: u8, multiplier: u32) -> bool
     ensures { λ r. ⌜ r ≡ multiplierOk kind multiplier ⌝ }
 {
     if kind == 4 {
-        (1 <= multiplier) & (multiplier <= 1000000)
+        is_multiplier(multiplier)
     } else {
         (kind == 5) | (multiplier == 0)
     }
@@ -43,7 +43,7 @@ fn is_listed(file: &[u8], at: usize, kind: u8, types: &[u8], k: u8, m: usize, j:
 {
     let literal = literal_at(file, at, j);
     let multiplier = multiplier_at(file, at, j);
-    names_atom(types, k, m, literal.atom()) & is_multiplier(kind, multiplier)
+    names_atom(types, k, m, literal.atom()) & multiplier_ok(kind, multiplier)
 }
 
 // Each of the literals and multipliers that are listed.

@@ -66,6 +66,10 @@ usedIn c = min (c .head .count) 8
 abbrev pub constraintAt : List ℕ → ℕ → Constraint
 constraintAt s at = record { head = headAt s at; term = termAt s at }
 
+-- the constraints of a file whose first one stands at `start`
+abbrev pub constraintsFrom : List ℕ → (start : ℕ) → ℕ → Constraint
+constraintsFrom s start i = constraintAt s (start + 80 * i)
+
 -- constraint i of the file
 abbrev pub constraintOf : List ℕ → ℕ → Constraint
 constraintOf s i = constraintAt s (blockAt s i)
@@ -90,6 +94,10 @@ pub record Line : Type 0 where
 -- "literal count byte (0 to 12)": the listed literals, none past the twelfth whatever the count
 unfoldable pub listedIn : Line → ℕ
 listedIn line = min (line .head .count) 12
+
+-- the line at an offset whose head was read
+abbrev pub lineWith : List ℕ → (at : ℕ) → LineHead → Line
+lineWith s at h = record { head = h; literal = literalAt s at; multiplier = multiplierAt s at }
 
 abbrev pub lineAt : List ℕ → ℕ → Line
 lineAt s at = record { head = lineHeadAt s at; literal = literalAt s at; multiplier = multiplierAt s at }

@@ -12,7 +12,7 @@ use Rattle.answers.proofs.Tests.{both-true}
 use Rattle.node.specs.Equations.{typeAt, equationAt}
 use Rattle.node.proofs.Records.{type-among, equation-among}
 use Rattle.constraints.specs.declared.layout.LineHead.{LineHead}
-use Rattle.constraints.specs.Layout.{lineHeadAt, lineAt}
+use Rattle.constraints.specs.Layout.{lineHeadAt, lineAt, constraintsFrom}
 use Rattle.constraints.specs.Linear.{variable}
 use Rattle.rules.specs.declared.pattern.Named.{Named}
 use Rattle.rules.specs.declared.pattern.Position.{Position}
@@ -20,7 +20,6 @@ use Rattle.rules.specs.Clauses.{clauses, numbered}
 use Rattle.rules.specs.Lines.{positionOf, literalsAre, equationIn}
 use Rattle.clauses.specs.Limits.{SmallClause}
 use Rattle.clauses.proofs.Limits.{small-clauses, small-named}
-use Rattle.certificate.specs.Sums.{constraintsFrom}
 use borrow.Author.Needs.{needs}
 use Rattle.certificate.proofs.equations.equation_ok.Statement.{statement}
 use Rattle.certificate.proofs.equations.equation_ok.Tie as tie

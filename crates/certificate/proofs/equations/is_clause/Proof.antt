@@ -8,11 +8,10 @@ use native.Mathlib.Omega.{arith}
 use borrow.Author.Tests.{not-true, not-false, le-leb, lt-leb}
 use denote.Ref.{now}
 use lib.Dec.{eqb, leb}
-use Rattle.constraints.specs.Layout.{lineHeadAt, literalAt}
+use Rattle.constraints.specs.Layout.{lineHeadAt, literalAt, constraintsFrom}
 use Rattle.rules.specs.declared.pattern.Pattern.{Pattern}
 use Rattle.rules.specs.Lines.{clauseIs}
 use Rattle.rules.specs.Matching.{matchesOf}
-use Rattle.certificate.specs.Sums.{constraintsFrom}
 use borrow.Author.Needs.{needs}
 use Rattle.certificate.proofs.equations.is_clause.Statement.{statement}
 use Rattle.certificate.proofs.equations.is_clause.Tie as tie

@@ -8,8 +8,8 @@ use denote.Ref.{now}
 use Rattle.constraints.specs.declared.layout.LineHead.{LineHead}
 use Rattle.constraints.specs.Layout.{Line, lineOf}
 use Rattle.rules.proofs.LineFaults.{fault-1, fault-2, fault-3, fault-4, fault-5}
-use Rattle.certificate.proofs.Cutting.{cut-clear}
-use Rattle.certificate.proofs.Deciding.{passed-clear}
+use Rattle.arithmetic.proofs.Cutting.{cut-clear}
+use Rattle.arithmetic.proofs.Deciding.{passed-clear}
 use Rattle.certificate.proofs.LineFacts.{deep, line-is, line-shape, line-checkable, equation-is, property-is, join-is, arithmetic-is, cut-is}
 use borrow.Author.Needs.{needs}
 use Rattle.certificate.proofs.lines.own_fault.Statement.{statement}

@@ -8,10 +8,9 @@ use borrow.Author.Needs.{needs}
 use borrow.Author.Tests.{eqb-true}
 use lib.Dec.{eqb}
 use Rattle.answers.specs.Checks.{every}
-use Rattle.constraints.specs.Layout.{Line, listedIn}
+use Rattle.constraints.specs.Layout.{Line, listedIn, lineWith}
 use Rattle.constraints.proofs.Blocks.{listed-is}
 use Rattle.rules.specs.Lines.{notPropertyAt, basePropertyOk}
-use Rattle.certificate.specs.Ready.{lineWith}
 use Rattle.certificate.proofs.property.base_property_ok.Statement.{statement}
 use Rattle.certificate.proofs.property.base_property_ok.Tie as tie
 

@@ -17,15 +17,15 @@ atom-requires c κs = search needs
 names-atom-requires : tie.Need-names-atom-requires
 names-atom-requires c κs = search needs
 
-is-multiplier-requires : tie.Need-is-multiplier-requires
-is-multiplier-requires c κs = search needs
+multiplier-ok-requires : tie.Need-multiplier-ok-requires
+multiplier-ok-requires c κs = search needs
 
 returns : tie.Need-returns
 unfolding listedOk
 returns c =
     let read = c .before .before in
     rw (
-      c .is-multiplier .ensures,
+      c .multiplier-ok .ensures,
       c .before .names-atom .ensures,
       read .atom .ensures,
       read .before .before .literal-at .ensures,
@@ -40,5 +40,5 @@ is-listed-spec =
     multiplier-at-requires
     atom-requires
     names-atom-requires
-    is-multiplier-requires
+    multiplier-ok-requires
     returns)

@@ -5,10 +5,9 @@ use mathlib.Core.Bool.{_&&_}
 use borrow.Author.Tests.{not-true, not-false}
 use denote.Ref.{now}
 use lib.Dec.{leb}
-use Rattle.constraints.specs.Layout.{Line}
+use Rattle.constraints.specs.Layout.{Line, lineWith}
 use Rattle.constraints.specs.Rules.{typesOf}
 use Rattle.rules.specs.Lines.{numbersOk}
-use Rattle.certificate.specs.Ready.{lineWith}
 use Rattle.certificate.proofs.SlotHalves.{shape-many, shape-missed, shape-rest}
 use borrow.Author.Needs.{needs}
 use Rattle.certificate.proofs.shape.shape_ok.Statement.{statement}

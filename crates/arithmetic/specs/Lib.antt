@@ -1,0 +1,2 @@
+pub mod Checkable
+pub mod Sums
