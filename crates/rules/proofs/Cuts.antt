@@ -22,7 +22,7 @@ use Rattle.constraints.specs.Linear.{Bounded, Form, coefficient, scaled, negate
 use Rattle.constraints.proofs.Totals.{coefficient-append, coefficient-scaled}
 use Rattle.literals.specs.Literals.{atomOf, isNegated, isConstraint, constraintNumber}
 use Rattle.rules.specs.Arithmetic.{isMultiplier, oppositeSays, sumOf, arithmeticOk}
-use Rattle.rules.specs.Cuts.{others, lastOk, otherOk, isCut, cutTo, multipleOk, roundedOk, cutOk, asArithmetic}
+use Rattle.rules.specs.Cuts.{others, lastOk, otherOk, isCut, cutTo, othersSum, multipleOk, roundedOk, cutOk, asArithmetic}
 use Rattle.rules.specs.Limited.{Named}
 use Rattle.rules.specs.Satisfaction.{Valuation, Satisfies}
 use Rattle.rules.proofs.ArithmeticLines.{arithmetic-satisfied}
@@ -118,7 +118,7 @@ module _ (constraints : ℕ → Constraint) where
     last = cutTo constraints line
 
     abbrev sum : Bounded
-    sum = sumOf constraints line n
+    sum = othersSum constraints line
 
     pub others-sum : sumOf constraints (asArithmetic line) n ≡ sum
     others-sum =
@@ -183,7 +183,7 @@ same-count line = refl
 module _ (constraints : ℕ → Constraint) (line : Line) where
   -- r times the bound is at most B
   abbrev pub isLow : Bool
-  isLow = leZ (pos (line .head .r) *ℤ cutTo constraints line .bound) (sumOf constraints line (others line) .bound)
+  isLow = leZ (pos (line .head .r) *ℤ cutTo constraints line .bound) (othersSum constraints line .bound)
 
   as-arithmetic : CutFacts line → (arithmeticOk constraints (asArithmetic line) && isLow) ≡ (multipleOk constraints line && roundedOk constraints line)
   unfolding arithmeticOk

@@ -37,22 +37,23 @@ isCut line =
 abbrev pub cutTo : (ℕ → Constraint) → Line → Bounded
 cutTo constraints line = boundedOf (constraints (constraintNumber (atomOf (line .literal (others line)))))
 
--- "B divided by r, rounded toward minus infinity": −1 − b lies at or above −1 − (b / r) times r
-abbrev pub floorOver : ℤ → (r : ℕ) → ℤ
-floorOver (pos b) r = pos (b / r)
-floorOver (negsuc b) r = negsuc (b / r)
+-- "their opposites, times multipliers, sum to coefficients A, one for every variable (0 where none has it), and bound B"
+abbrev pub othersSum : (ℕ → Constraint) → Line → Bounded
+othersSum constraints line = sumOf constraints line (others line)
 
 -- "each A is r times that constraint's coefficient". The variables of a certificate are below 576.
 abbrev pub multipleOk : (ℕ → Constraint) → Line → Bool
 multipleOk constraints line =
-    let sum = sumOf constraints line (others line) in
-    every (λ x. sameZ (coefficient (sum .form) x) (pos (line .head .r) *ℤ coefficient (cutTo constraints line .form) x)) 576
+    every (λ x. sameZ (coefficient (othersSum constraints line .form) x) (pos (line .head .r) *ℤ coefficient (cutTo constraints line .form) x)) 576
+
+-- "B divided by r, rounded toward minus infinity": of −b − 1 it is −(b / r) − 1
+abbrev pub floorOver : ℤ → (r : ℕ) → ℤ
+floorOver (pos b) r = pos (b / r)
+floorOver (negsuc b) r = negsuc (b / r)
 
 -- "its bound is B divided by r, rounded toward minus infinity"
 abbrev pub roundedOk : (ℕ → Constraint) → Line → Bool
-roundedOk constraints line =
-    let sum = sumOf constraints line (others line) in
-    sameZ (cutTo constraints line .bound) (floorOver (sum .bound) (line .head .r))
+roundedOk constraints line = sameZ (cutTo constraints line .bound) (floorOver (othersSum constraints line .bound) (line .head .r))
 
 -- 22: "a kind 5 line not as described, multipliers included"
 unfoldable pub cutOk : (ℕ → Constraint) → Line → Bool
