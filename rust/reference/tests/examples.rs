@@ -166,3 +166,10 @@ fn no_smaller_depth_is_found() {
         assert_eq!(search::certificate(&node, depth - 1), None, "{name}");
     }
 }
+
+#[test]
+fn a_tone_put_one_minute_on_meets_a_booking() {
+    let slots = [[1, 0], [1, 0], [-2, -3]];
+    assert_eq!(run("pairs-of-minutes", &slots, 9), [1, 1, 1]);
+    assert_eq!(run("forged-pairs", &slots, 9), [1, 0, 0]);
+}
