@@ -22,14 +22,14 @@ use Rattle.rules.proofs.ConstraintLimits.{Few, limited}
 use Rattle.rules.proofs.CertificateFacts.{few-streams}
 use Rattle.rules.proofs.LineParts.{from-is}
 use Rattle.rules.proofs.ShapeFacts.{ShapeFacts, shape-facts}
+use Rattle.arithmetic.specs.Checkable.{Checkable}
+use Rattle.arithmetic.proofs.Checkables.{checkable}
 use Rattle.certificate.specs.declared.frame.Frame.{Frame}
 use Rattle.certificate.specs.Content.{Readable}
-use Rattle.arithmetic.specs.Checkable.{Checkable}
 use Rattle.certificate.specs.Checking.{Checking}
 use Rattle.certificate.specs.Constants.{ConstantsLimited}
 use Rattle.certificate.specs.Frame.{frameOf, partIn}
 use Rattle.certificate.specs.Ready.{linesAt, LinesReady}
-use Rattle.arithmetic.proofs.Checkables.{checkable}
 use Rattle.certificate.proofs.NodeFacts.{constants-limited}
 
 -- the lines of a frame are the file's
