@@ -16,6 +16,7 @@ use Rattle.integers.proofs.Ring.{+ℤ-idl, +ℤ-idr, +ℤ-comm, +ℤ-assoc, *�
 use Rattle.integers.proofs.Abs.{abs-*ℤ, abs-negℤ, bound-add, bound-sub}
 use Rattle.constraints.specs.Layout.{Constraint, Line, usedIn}
 use Rattle.constraints.specs.Linear.{Monomial, Form, Bounded, variable, coefficient, scaled, negated, written, boundedOf}
+use Rattle.constraints.proofs.Weights.{weight, coefficient-within, weight-scaled, weight-written}
 use Rattle.literals.specs.Literals.{atomOf, isNegated, constraintNumber}
 use Rattle.rules.specs.Arithmetic.{sumOf}
 use Rattle.arithmetic.specs.Sums.{addAt, addForm, sumsOf, factorOf, oppositeBound}
@@ -56,39 +57,10 @@ entry l (m ∷ ms) x h =
     entry-more (addForm l ms) m (coefficient ms x) (getD l x (pos 0)) x (rw (length-addForm l ms) h) (entry l ms x h)
     (eqb (m .of) x) refl
 
--- ---- magnitudes: a form weighs what its coefficients do
-
-abbrev pub weight : Form → ℕ
-weight [] = 0
-weight (m ∷ ms) = natAbs (m .times) + weight ms
-
-chosen-within : (a b : ℤ) (n : ℕ) → natAbs b ≤ n → (t : Bool) → natAbs (cond t (a +ℤ b) b) ≤ natAbs a + n
-chosen-within a b n h true = bound-add (natAbs a) n a b (le-refl (natAbs a)) h
-chosen-within a b n h false = omega arith
-
-pub coefficient-within : (f : Form) (x : ℕ) → natAbs (coefficient f x) ≤ weight f
-coefficient-within [] x = le-refl 0
-coefficient-within (m ∷ ms) x =
-    chosen-within (m .times) (coefficient ms x) (weight ms) (coefficient-within ms x) (eqb (m .of) x)
-
 pub entry-within : (l : List ℤ) (f : Form) (x n : ℕ) → x < length l → natAbs (getD l x (pos 0)) ≤ n
     → natAbs (getD (addForm l f) x (pos 0)) ≤ weight f + n
 entry-within l f x n h k =
     rw (entry l f x h) (bound-add (weight f) n (coefficient f x) (getD l x (pos 0)) (coefficient-within f x) k)
-
-pub weight-append : (f g : Form) → weight (f ++ g) ≡ weight f + weight g
-weight-append [] g = omega arith
-weight-append (m ∷ ms) g = omega (arith, weight-append ms g)
-
-pub weight-scaled : (z : ℤ) (f : Form) → weight (scaled z f) ≡ natAbs z * weight f
-weight-scaled z [] = omega arith
-weight-scaled z (m ∷ ms) = omega (arith, abs-*ℤ z (m .times), weight-scaled z ms)
-
-pub weight-written : (c : Constraint) (n : ℕ) → ((j : ℕ) → j < n → natAbs (c .term j .coefficient) ≤ 1000000000)
-    → weight (written c n) ≤ n * 1000000000
-unfolding written
-weight-written c zero h = le-refl 0
-weight-written c (suc n) h = omega (arith, h n (le-refl (suc n)), weight-written c n (λ j l. h j (omega arith)))
 
 -- ---- the opposite of a literal, times a multiplier
 

@@ -17,10 +17,11 @@ use Rattle.constraints.specs.declared.layout.ConstraintHead.{ConstraintHead}
 use Rattle.constraints.specs.Layout.{Constraint, Line, usedIn, constraintAt, headAt, termAt, lineAt, literalAt, multiplierAt, constraintsFrom}
 use Rattle.constraints.specs.Linear.{variable, scaled, written}
 use Rattle.constraints.proofs.Blocks.{used-is, used-few}
+use Rattle.constraints.proofs.Weights.{weight, weight-append}
 use Rattle.rules.specs.Arithmetic.{sumOf}
 use Rattle.arithmetic.specs.Sums.{addForm, sumsOf, placeOf, factorOf, oppositeBound}
 use Rattle.arithmetic.specs.Checkable.{Summable, Usable}
-use Rattle.arithmetic.proofs.Adding.{entry-within, weight, weight-append, weight-terms, terms-more, sums-more, bound-suc, bound-more, form-more, opposite-within, abs-factor}
+use Rattle.arithmetic.proofs.Adding.{entry-within, weight-terms, terms-more, sums-more, bound-suc, bound-more, form-more, opposite-within, abs-factor}
 
 -- ---- one term of a constraint
 

@@ -1,3 +1,4 @@
 pub mod Blocks
 pub mod Negations
 pub mod Totals
+pub mod Weights
