@@ -1,8 +1,6 @@
-pub mod Coefficients
 pub mod LineFacts
 pub mod NodeFacts
 pub mod Openings
 pub mod PartFacts
-pub mod Saying
 pub mod SlotHalves
 pub mod Standing

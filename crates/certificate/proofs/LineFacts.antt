@@ -24,8 +24,8 @@ use Rattle.rules.proofs.LineParts.{from-is}
 use Rattle.rules.proofs.ShapeFacts.{ShapeFacts, shape-facts}
 use Rattle.arithmetic.specs.Checkable.{Checkable}
 use Rattle.arithmetic.proofs.Checkables.{checkable}
+use Rattle.matching.specs.Content.{Readable}
 use Rattle.certificate.specs.declared.frame.Frame.{Frame}
-use Rattle.certificate.specs.Content.{Readable}
 use Rattle.certificate.specs.Checking.{Checking}
 use Rattle.certificate.specs.Constants.{ConstantsLimited}
 use Rattle.certificate.specs.Frame.{frameOf, partIn}
@@ -51,9 +51,7 @@ module _ (node cert : List ℕ) (f : Frame) (ch : Checking node cert f) where
       rw (ch .frame)
       (record {
         room = omega (arith, ch .ready .room);
-        counts =
-            λ i l.
-            limited (typesOfNode node) few (trailerOf cert .depth) (ch .ready .deep) (constraintOf cert i) (ch .ready .constraints i l) .few;
+        constraints = λ i l. limited (typesOfNode node) few (trailerOf cert .depth) (ch .ready .deep) (constraintOf cert i) (ch .ready .constraints i l);
       })
 
   -- what the clauses of a stream ask of the node, up to offset k

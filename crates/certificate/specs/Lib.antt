@@ -1,6 +1,5 @@
 pub mod Checking
 pub mod Constants
-pub mod Content
 pub mod Frame
 pub mod Ready
 pub mod Slots

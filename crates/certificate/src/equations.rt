@@ -1,12 +1,10 @@
 // Rule 17: equation lines.
 use crate::frame::Frame;
-use crate::matching::matches;
 use clauses::clause_of;
 use constraints::line_head;
-use constraints::literal_at;
+use matching::is_clause;
 use node::equation_among;
 use node::type_among;
-use rules::Clause;
 use rules::Named;
 use rules::Position;
 ghost use Prim.Native.Nat.{_+_, _≤_};
@@ -15,35 +13,9 @@ ghost use lib.ListN.{length};
 ghost use Rattle.node.specs.Equations.{typeAt, equationAt};
 ghost use Rattle.node.specs.Layout.{recordsOf};
 ghost use Rattle.constraints.specs.Layout.{lineAt, constraintsFrom};
-ghost use Rattle.rules.specs.Lines.{clauseIs, positionOf, equationIn};
-ghost use Rattle.clauses.specs.Limits.{SmallPattern};
-ghost use Rattle.certificate.specs.Content.{Readable};
+ghost use Rattle.rules.specs.Lines.{positionOf, equationIn};
+ghost use Rattle.matching.specs.Content.{Readable};
 ghost use Rattle.certificate.specs.Constants.{ConstantsLimited};
-
-// The literals of the line at an offset are those of a clause, in its order.
-fn is_clause(cert: &[u8], start: usize, m: usize, at: usize, c: Clause) -> bool
-    requires { ⌜ Readable (now cert) start m × (at + 80 ≤ length (now cert)) ⌝ }
-    requires { ⌜ SmallPattern (c .first) × SmallPattern (c .second) × SmallPattern (c .third) ⌝ }
-    ensures { λ r. ⌜ r ≡ clauseIs (constraintsFrom (now (cert .entry)) start) m (lineAt (now (cert .entry)) at) c ⌝ }
-{
-    let first = c.first;
-    let second = c.second;
-    let third = c.third;
-    let count = line_head(cert, at).count as usize;
-    if !((count == c.count) & matches(cert, start, m, first, literal_at(cert, at, 0))) {
-        return false;
-    }
-    if c.count <= 1 {
-        return true;
-    }
-    if !matches(cert, start, m, second, literal_at(cert, at, 1)) {
-        return false;
-    }
-    if c.count <= 2 {
-        return true;
-    }
-    matches(cert, start, m, third, literal_at(cert, at, 2))
-}
 
 // Where offset q of a part stands, whose first offset stands at `opening`.
 fn position_of(opening: Position, q: u16) -> Position

@@ -1,13 +1,11 @@
 // The certificate checker.
 mod checker;
 mod constraint_rules;
-mod content;
 mod equations;
 mod file_note;
 mod frame;
 mod joins;
 mod lines;
-mod matching;
 mod parts;
 mod property;
 mod reading;

@@ -1,28 +1,22 @@
--- The clauses whose numbers are those that a constant K or an operator gives.
+-- How large the numbers are that a constant K or an operator gives a clause's constraint.
 use Prim.Native.Nat.{_≤_}
-use mathlib.Core.List.{List}
-use lib.IntN.{natAbs}
-use Rattle.node.specs.Reads.{All}
-use Rattle.rules.specs.declared.pattern.Clause.{Clause}
+use mathlib.Core.Path.{_≡_}
+use lib.IntN.{pos, natAbs}
+use Rattle.constraints.specs.Linear.{coefficient}
 use Rattle.rules.specs.declared.pattern.Linear.{Linear}
 use Rattle.rules.specs.declared.pattern.Pattern.{Pattern}
 use Rattle.rules.specs.declared.pattern.Pattern.the-variants.{Yes, No, Most}
+use Rattle.rules.specs.Clauses.{boundedOf}
 
--- a constraint whose coefficients' sums fit a machine's word
+-- a constraint that may be multiplied: by what its first variable shows, or where that is dropped by what the bound shows
 pub record Small (d : Linear) : Type 0 where
-  pub a : natAbs (d .a) ≤ 1000000000
+  pub a : natAbs (d .a) ≤ 1
   pub b : natAbs (d .b) ≤ 1000000000
-  pub c : natAbs (d .c) ≤ 1000000000
+  pub c : natAbs (d .c) ≤ 1
+  pub bound : natAbs (d .bound) ≤ 1000000000
+  pub dropped : coefficient (boundedOf d .form) (d .x) ≡ pos 0 → (natAbs (d .b) ≤ 1) × (natAbs (d .bound) ≤ 1)
 
 abbrev pub SmallPattern : Pattern → Type 0
 SmallPattern (Yes x) = Unit {0}
 SmallPattern (No x) = Unit {0}
 SmallPattern (Most d) = Small d
-
-pub record SmallClause (c : Clause) : Type 0 where
-  pub first : SmallPattern (c .first)
-  pub second : SmallPattern (c .second)
-  pub third : SmallPattern (c .third)
-
-abbrev pub AllSmall : List Clause → Type 0
-AllSmall = All SmallClause

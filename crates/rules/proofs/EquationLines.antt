@@ -1,13 +1,11 @@
 -- Rule 17: an equation line is satisfied by every window in which the node's equations hold.
 -- Assumes nothing.
 use mathlib.Core.Path.{_≡_}
-use mathlib.Core.Bool.{Bool, true, false, cond, _&&_}
+use mathlib.Core.Bool.{Bool, true, false, cond}
 use mathlib.Core.List.{List}
 use Prim.Native.Nat.{ℕ, _-_, _≤_, _<_}
 use native.Mathlib.Omega.{arith}
-use borrow.Author.Tests.{ltb-true}
 use lib.Dec.{ltb}
-use Rattle.answers.proofs.Tests.{both-true}
 use Rattle.node.specs.Layout.{propertyOf}
 use Rattle.node.specs.Reads.{All, ReadOk, reads}
 use Rattle.node.proofs.FileRules.{sizes}
@@ -19,11 +17,12 @@ use Rattle.constraints.specs.Linear.{variable}
 use Rattle.rules.specs.declared.pattern.Clause.{Clause}
 use Rattle.rules.specs.declared.pattern.Position.{Position}
 use Rattle.rules.specs.declared.pattern.Position.the-variants.{Opening, Unsure, Inner}
-use Rattle.rules.specs.Clauses.{clauses, numbered}
+use Rattle.rules.specs.Clauses.{clauses}
+use Rattle.rules.specs.Equations.{EquationLine}
 use Rattle.rules.specs.Limited.{Named}
-use Rattle.rules.specs.Lines.{baseWindow, stepWindow, positionOf, literalsAre, equationIn}
+use Rattle.rules.specs.Lines.{baseWindow, stepWindow, positionOf}
 use Rattle.rules.specs.Outcome.{CertificateRules}
-use Rattle.rules.specs.Verdict.{partOf, windowOf, equationPasses}
+use Rattle.rules.specs.Verdict.{partOf, windowOf, EquationKept}
 use Rattle.rules.specs.Satisfaction.{Valuation, Satisfies}
 use Rattle.rules.specs.Windows.{PositionSays, RowHolds, Solves}
 use Rattle.rules.proofs.Contradiction.{below-written}
@@ -62,29 +61,25 @@ module _ (node : Node) (formed : WellFormedNode node) (few : node .streams ≤ 6
 
     row-below : q < 9 → All (ClauseBelow 576) (clausesAt p q)
     row-below low =
-        clauses-below 576 (variable q) (variable (q - 1)) (variable q p) (omega arith) (node .types p) (node .equations p) (positionOf opening q)
+        clauses-below 576 (variable q p) (omega arith) (variable q) (variable (q - 1)) (node .types p) (node .equations p) (positionOf opening q)
         (all-map {P = ReadOk (node .streams) (node .types) p}
-        (λ r ok. (omega (arith, ok .below), omega (arith, ok .below))) (reads (node .equations p)) (formed .operands p l))
+        (λ r ok. record { at = omega (arith, ok .below); before = omega (arith, ok .below); needed = λ _. omega (arith, ok .below) })
+        (reads (node .equations p)) (formed .operands p l))
 
   -- ---- a line
 
   pub equation-in-satisfied :
       (constraints : ℕ → Constraint) (m : ℕ) → ((i : ℕ) → i < m → Named (constraints i) (usedIn (constraints i)))
       → (offsets : ℕ) → offsets ≤ 9
-      → (line : Line) → equationIn (node .streams) (node .types) (node .equations) constraints m offsets opening line ≡ true
+      → (line : Line) → EquationLine (node .streams) (node .types) (node .equations) constraints m offsets opening line
       → (w : Valuation) → Solves node opening offsets w
       → Satisfies constraints w line
-  unfolding equationIn
   equation-in-satisfied constraints m named offsets nine line e w solves =
       let p = line .head .p in
       let q = line .head .q in
-      let cs = clausesAt p q in
-      let outer = both-true (ltb p (node .streams) && ltb q offsets) (literalsAre constraints m line (numbered cs (line .head .r))) e in
-      let inner = both-true (ltb p (node .streams)) (ltb q offsets) (outer .0) in
-      let l : p < node .streams = ltb-true p (node .streams) (inner .0) in
-      let o : q < offsets = ltb-true q offsets (inner .1) in
-      numbered-satisfied constraints w m (λ i k. below-written (constraints i) (usedIn (constraints i)) (named i k)) line cs
-      (line .head .r) (row-below p q l (omega arith)) (row-true p q l w (solves .rows q p o l)) (outer .1)
+      let o = e .offset in
+      numbered-satisfied constraints w m (λ i k. below-written (constraints i) (usedIn (constraints i)) (named i k)) line (clausesAt p q)
+      (line .head .r) (row-below p q (e .stream) (omega arith)) (row-true p q (e .stream) w (solves .rows q p o (e .stream))) (e .literals)
 
 -- ---- a certificate
 
@@ -96,7 +91,7 @@ offsets-few cert property i deep = go (ltb i (trailerOf cert .base))
     go true = omega arith
     go false = omega arith
 
-pub equation-satisfied : (node cert : List ℕ) → CertificateRules node cert → (i : ℕ) → equationPasses node cert i ≡ true
+pub equation-satisfied : (node cert : List ℕ) → CertificateRules node cert → (i : ℕ) → EquationKept node cert i
     → (w : Valuation) → Solves (nodeOf node) (windowOf node cert i .opening) (windowOf node cert i .offsets) w
     → Satisfies (constraintOf cert) w (lineOf cert i)
 equation-satisfied node cert rules i e w solves =

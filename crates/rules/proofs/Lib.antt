@@ -3,6 +3,7 @@ pub mod ArithmeticLines
 pub mod CertificateFacts
 pub mod ClauseForms
 pub mod ClauseLines
+pub mod ClauseLiterals
 pub mod ClausesHold
 pub mod ClausesNamed
 pub mod ConstraintLimits
@@ -10,13 +11,16 @@ pub mod Contents
 pub mod Contradiction
 pub mod Cuts
 pub mod EquationLines
+pub mod Factors
 pub mod FileFacts
 pub mod Floors
 pub mod Joins
+pub mod Leading
 pub mod LineFaults
 pub mod LineParts
 pub mod LiteralMatches
 pub mod Literals
+pub mod Matches
 pub mod Outcomes
 pub mod Parts
 pub mod PropertyLines

@@ -10,7 +10,8 @@ use Rattle.answers.specs.declared.Place.the-variants.{Line as AtLine}
 use Rattle.constraints.specs.Layout.{lineOf}
 use Rattle.rules.specs.Lines.{unless, ofKind, kindFault}
 use Rattle.rules.specs.Outcome.{LineMet, KindMet, FirstFailure, at-16, at-17, at-18, at-19, at-20, at-22}
-use Rattle.rules.specs.Verdict.{shapePasses, equationPasses, propertyPasses, joinPasses, arithmeticPasses, cutPasses, lineFault, linePasses}
+use Rattle.rules.specs.Verdict.{shapePasses, EquationKept, equationPasses, propertyPasses, joinPasses, arithmeticPasses, cutPasses, lineFault, linePasses}
+use Rattle.rules.proofs.Matches.{equation-test}
 
 -- the number of a kind, where it breaks its rule
 module _ (kind : ℕ) (equation property join arithmetic cut : Bool) where
@@ -120,7 +121,7 @@ module _ (node cert : List ℕ) (i : ℕ) where
   pub line-broken : LineMet node cert i → linePasses node cert i ≡ false → FirstFailure node cert (lineFault node cert i) (AtLine i)
   line-broken met =
       by-line (λ n. eqb n 0 ≡ false → FirstFailure node cert n (AtLine i)) (λ f _. at-16 met f)
-      (λ s f _. at-17 (of s (breaks kindOf 1 _ f .0)) (breaks kindOf 1 _ f .1))
+      (λ s f _. at-17 (of s (breaks kindOf 1 _ f .0)) (not-kept (breaks kindOf 1 _ f .1)))
       (λ s f _. at-18 (of s (breaks kindOf 2 _ f .0)) (breaks kindOf 2 _ f .1))
       (λ s f _. at-19 (of s (breaks kindOf 3 _ f .0)) (breaks kindOf 3 _ f .1))
       (λ s f _. at-20 (of s (breaks kindOf 4 _ f .0)) (breaks kindOf 4 _ f .1))
@@ -129,3 +130,6 @@ module _ (node cert : List ℕ) (i : ℕ) where
     where
       of : {kind : ℕ} → shapePasses node cert i ≡ true → kindOf ≡ kind → KindMet node cert i kind
       of s k = record { met = met; shape = s; is = k }
+
+      not-kept : equationPasses node cert i ≡ false → ¬ EquationKept node cert i
+      not-kept f e = false≢true (sym f ∙ equation-test node cert i (met .before .node-rules) e)

@@ -19,6 +19,7 @@ use Rattle.node.proofs.Outcomes.{accepted-keeps as node-keeps, refused-first as
 use Rattle.rules.specs.Outcome.{FileRules, LinesKeep, CertificateRules, BeforeLines, FirstFailure, in-node, at-11, at-12, at-13, at-14, at-15, at-21-base, at-21-step, Says}
 use Rattle.rules.specs.Verdict.{linesOf, valuesOf, shapePasses, lineFault, linePasses, checkLines, partsVerdict, linesVerdict, constraintsVerdict, fileVerdict, andThen, beforeLines, verdictOf}
 use Rattle.rules.proofs.LineFaults.{KindRules, line-kept, line-passes, line-broken}
+use Rattle.rules.proofs.Matches.{equation-means, equation-test}
 
 -- the lowest line at fault, or the rest
 by-lines : (P : Answer CertificateValues → Type 0) (found : Found) (number : ℕ → ℕ) (rest : Answer CertificateValues) → ((i : ℕ) → found ≡ At i → P (refused (number i) (AtLine i))) → (found ≡ Nothing → P rest) → P (checkLines found number rest)
@@ -39,7 +40,7 @@ module _ (node cert : List ℕ) where
           file = b .file;
           constraints = b .constraints;
           shapes = λ i l. kept lines i l .0;
-          equations = λ i l k. kept lines i l .1 .equation k;
+          equations = λ i l k. equation-means node cert i (kept lines i l .1 .equation k);
           properties = λ i l k. kept lines i l .1 .property k;
           joins = λ i l k. kept lines i l .1 .join k;
           arithmetic = λ i l k. kept lines i l .1 .arithmetic k;
@@ -105,7 +106,7 @@ module _ (node cert : List ℕ) where
   lines-keep r i l =
       let rules : KindRules node cert i =
       record {
-        equation = r .equations i l;
+        equation = λ k. equation-test node cert i (r .node-rules) (r .equations i l k);
         property = r .properties i l;
         join = r .joins i l;
         arithmetic = r .arithmetic i l;

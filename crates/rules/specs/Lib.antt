@@ -1,6 +1,8 @@
 pub mod Arithmetic
 pub mod Clauses
 pub mod Cuts
+pub mod Equations
+pub mod Factors
 pub mod Joins
 pub mod Limited
 pub mod Lines

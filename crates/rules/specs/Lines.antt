@@ -16,9 +16,9 @@ use Rattle.rules.specs.declared.pattern.Position.{Position}
 use Rattle.rules.specs.declared.pattern.Position.the-variants.{Opening, Unsure, Inner}
 use Rattle.rules.specs.Arithmetic.{isMultiplier}
 use Rattle.rules.specs.Clauses.{clauses, numbered}
+use Rattle.rules.specs.Factors.{matchesOf}
 use Rattle.literals.specs.Literals.{positive, negative, atomOf}
 use Rattle.rules.specs.Literals.{namesAtom}
-use Rattle.rules.specs.Matching.{matchesOf}
 
 -- the multiplier of a listed literal: kinds 4 and 5 use it, and 22 takes "multipliers included"; the other kinds leave it at zero
 abbrev pub multiplierOk : (kind multiplier : ℕ) → Bool
@@ -110,7 +110,7 @@ pub record Streams : Type 0 where
   pub types : ℕ → StreamType
   pub equations : ℕ → Equation
 
--- 17: "clause r, counted from 0, of stream p at offset q (base: below k; step: up to k)"
+-- 17, the test: "clause r, counted from 0, of stream p at offset q (base: below k; step: up to k)". Equations.antt has the words.
 unfoldable pub equationIn : (n : ℕ) (types : ℕ → StreamType) (equations : ℕ → Equation) → (ℕ → Constraint) → (m offsets : ℕ) → (opening : Position) → Line → Bool
 equationIn n types equations constraints m offsets opening line =
     let p = line .head .p in

@@ -14,7 +14,7 @@ use Rattle.node.specs.Rules.{lengthOk}
 use Rattle.constraints.specs.Layout.{trailerOf, lineOf}
 use Rattle.constraints.specs.Rules.{fixedOk, countsOk, distanceOk}
 use Rattle.rules.specs.Lines.{hasEmpty}
-use Rattle.rules.specs.Verdict.{baseOf, stepOf, linesOf, valuesOf, constraintPasses, shapePasses, equationPasses, propertyPasses, joinPasses, arithmeticPasses, cutPasses, linePasses}
+use Rattle.rules.specs.Verdict.{baseOf, stepOf, linesOf, valuesOf, constraintPasses, shapePasses, EquationKept, propertyPasses, joinPasses, arithmeticPasses, cutPasses, linePasses}
 
 -- 11 to 14
 pub record FileRules (cert : List ℕ) : Type 0 where
@@ -40,7 +40,7 @@ pub record CertificateRules (node cert : List ℕ) : Type 0 where
   pub file : FileRules cert  -- 11 to 14
   pub constraints : ConstraintsKeep node cert  -- 15
   pub shapes : LinesKeep cert (shapePasses node cert)  -- 16
-  pub equations : KindKeeps cert 1 (equationPasses node cert)  -- 17
+  pub equations : (i : ℕ) → i < linesOf cert → lineOf cert i .head .kind ≡ 1 → EquationKept node cert i  -- 17
   pub properties : KindKeeps cert 2 (propertyPasses node cert)  -- 18
   pub joins : KindKeeps cert 3 (joinPasses cert)  -- 19
   pub arithmetic : KindKeeps cert 4 (arithmeticPasses cert)  -- 20
@@ -75,7 +75,7 @@ pub data FirstFailure (node cert : List ℕ) : (number : ℕ) → Place → Type
   at-14 : NodeRules node → lengthOk (length cert) ≡ true → fixedOk (trailerOf cert) ≡ true → countsOk (trailerOf cert) ≡ true → distanceOk (trailerOf cert) (length cert) ≡ false → FirstFailure node cert 14 File
   at-15 : {i : ℕ} → NodeRules node → FileRules cert → Lowest (constraintPasses node cert) (trailerOf cert .constraints) i → FirstFailure node cert 15 (AtConstraint i)
   at-16 : {i : ℕ} → LineMet node cert i → shapePasses node cert i ≡ false → FirstFailure node cert 16 (AtLine i)
-  at-17 : {i : ℕ} → KindMet node cert i 1 → equationPasses node cert i ≡ false → FirstFailure node cert 17 (AtLine i)
+  at-17 : {i : ℕ} → KindMet node cert i 1 → (¬ EquationKept node cert i) → FirstFailure node cert 17 (AtLine i)
   at-18 : {i : ℕ} → KindMet node cert i 2 → propertyPasses node cert i ≡ false → FirstFailure node cert 18 (AtLine i)
   at-19 : {i : ℕ} → KindMet node cert i 3 → joinPasses cert i ≡ false → FirstFailure node cert 19 (AtLine i)
   at-20 : {i : ℕ} → KindMet node cert i 4 → arithmeticPasses cert i ≡ false → FirstFailure node cert 20 (AtLine i)

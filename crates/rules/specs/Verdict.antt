@@ -18,6 +18,7 @@ use Rattle.constraints.specs.Rules.{Types, fixedOk, countsOk, distanceOk, const
 use Rattle.rules.specs.Types.{typesBelow}
 use Rattle.rules.specs.Arithmetic.{arithmeticOk}
 use Rattle.rules.specs.Cuts.{cutOk}
+use Rattle.rules.specs.Equations.{EquationLine}
 use Rattle.rules.specs.Joins.{joinOk}
 use Rattle.rules.specs.Lines.{Streams, Window, baseWindow, stepWindow, shapeOk, equationOk, unless, kindFault, hasEmpty}
 
@@ -62,7 +63,12 @@ unfoldable pub shapePasses : (node cert : List ℕ) → (i : ℕ) → Bool
 shapePasses node cert i =
     shapeOk (typesOfNode node) (trailerOf cert .depth) (trailerOf cert .constraints) (lineOf cert i)
 
--- rule 17, of line i
+-- rule 17, of line i: the words, and the test
+abbrev pub EquationKept : (node cert : List ℕ) → (i : ℕ) → Type 0
+EquationKept node cert i =
+    let w = windowOf node cert i in
+    EquationLine (streamsOf node) (typeAt node) (equationAt node) (constraintOf cert) (trailerOf cert .constraints) (w .offsets) (w .opening) (lineOf cert i)
+
 abbrev pub equationPasses : (node cert : List ℕ) → (i : ℕ) → Bool
 equationPasses node cert i =
     equationOk (streamsOfNode node) (constraintOf cert) (trailerOf cert .constraints) (windowOf node cert i) (lineOf cert i)

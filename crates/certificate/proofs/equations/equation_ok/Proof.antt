@@ -18,7 +18,8 @@ use Rattle.rules.specs.declared.pattern.Named.{Named}
 use Rattle.rules.specs.declared.pattern.Position.{Position}
 use Rattle.rules.specs.Clauses.{clauses, numbered}
 use Rattle.rules.specs.Lines.{positionOf, literalsAre, equationIn}
-use Rattle.clauses.specs.Limits.{SmallClause}
+use Rattle.rules.proofs.ClauseLiterals.{Each}
+use Rattle.clauses.specs.Limits.{SmallPattern}
 use Rattle.clauses.proofs.Limits.{small-clauses, small-named}
 use borrow.Author.Needs.{needs}
 use Rattle.certificate.proofs.equations.equation_ok.Statement.{statement}
@@ -53,7 +54,7 @@ looked-up c =
     let a = c .before .before .before .before .before .before .before .before .before .before .args in
     ap (named (now (a .node)) (a .opening)) (sym (c .before .before .before .before .before .before .before .line-head .ensures)) ∙ sym (named-is c)
 
-small : (c : tie.After-c) → SmallClause (c .c .given .0 .0)
+small : (c : tie.After-c) → Each SmallPattern (c .c .given .0 .0)
 small c =
     let s = c .before .before .before .before .before .before .before .before .before .before .before .before in
     let h = c .before .before .before .before .before .before .before .before .before .line-head .result in

@@ -1,0 +1,3 @@
+pub mod Coefficients
+pub mod Multiples
+pub mod Saying
