@@ -3,8 +3,10 @@
 //! They write what they are given, right or wrong, and share no code with
 //! the readers. [`proof`] keeps a part's lines and works out joins,
 //! [`search`] finds certificates, [`multiples`] writes some by cuts,
-//! [`random`] draws nodes and damages files.
+//! [`factors`] multiplies constraints through, [`random`] draws nodes and
+//! damages files.
 
+pub mod factors;
 pub mod multiples;
 pub mod proof;
 pub mod random;

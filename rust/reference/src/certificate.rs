@@ -5,6 +5,7 @@ pub mod equation;
 mod layout;
 mod line;
 pub mod literal;
+mod multiple;
 
 use crate::answer::{Accepted, Place, Refusal, Verdict};
 use crate::node;

@@ -81,6 +81,56 @@ fn no_multiple() {
     }
 }
 
+/// Whether a certificate stays right when its constraints are multiplied
+/// through: a sum of negated literals is.
+fn may_be_multiplied(certificate: &CertificateFile) -> bool {
+    let mut lines = certificate.base.iter().chain(&certificate.step);
+    lines.all(|line| match line.kind {
+        4 => line.clause().iter().all(|literal| literal & 1 == 1),
+        kind => kind != 5,
+    })
+}
+
+#[test]
+fn constraints_multiplied_through() {
+    let mut pairs = certified();
+    pairs.retain(|(_, certificate)| {
+        !certificate.constraints.is_empty() && may_be_multiplied(certificate)
+    });
+    assert!(pairs.len() > 10, "{}", pairs.len());
+    for (node, certificate) in pairs {
+        for factor in [2, 3, 1_000_000] {
+            accepted(&node, &certificate.clone().times(factor));
+        }
+    }
+    let largest = one_more_certificate().times(1_000_000_000);
+    accepted(&one_more(), &largest);
+}
+
+/// Three constraints, each by a factor of its own, add up by multipliers that
+/// make up for it.
+#[test]
+fn a_factor_for_each_constraint() {
+    for (factors, multipliers) in [
+        ([2, 3, 6], [3, 2, 1]),
+        ([1, 1_000_000, 1], [1_000_000, 1, 1_000_000]),
+        ([7, 1, 1], [1, 7, 7]),
+    ] {
+        let mut certificate = one_more_certificate();
+        let numbered = certificate
+            .constraints
+            .iter_mut()
+            .zip(factors.iter().cycle());
+        numbered.for_each(|(constraint, factor)| *constraint = constraint.times(*factor));
+        for line in certificate.base.iter_mut().chain(&mut certificate.step) {
+            if line.kind == 4 {
+                line.multipliers[..3].copy_from_slice(&multipliers);
+            }
+        }
+        accepted(&one_more(), &certificate);
+    }
+}
+
 #[test]
 fn rings_need_their_depth() {
     for depth in 1..=8 {

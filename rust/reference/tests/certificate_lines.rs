@@ -1,4 +1,5 @@
-//! Refusals 16 to 21, their places and their limits; 22 is in `cut_lines.rs`.
+//! Refusals 16 to 21, their places and their limits; 22 is in `cut_lines.rs`,
+//! and what 17 leaves to multiples is in `factor_lines.rs`.
 
 mod common;
 

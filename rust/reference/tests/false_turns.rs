@@ -1,5 +1,6 @@
-//! 01's four false turns, each in a certificate for a property that fails,
-//! and the wrong checkers that 01 tells to try.
+//! 01's four false turns, and those that 02's lines invite, each in a
+//! certificate for a property that fails, and the wrong checkers that 01
+//! tells to try.
 
 mod common;
 #[path = "common/examples.rs"]
@@ -217,6 +218,65 @@ fn a_cut_is_rounded_toward_minus_infinity() {
         refused(&node, &certificate, 22, AtLine(line));
     }
     accepted(&node, &multiples::certificate(2, 7, 1, down));
+}
+
+/// A certificate that 0, which is k, is at most 1, which is k − 1. It is right
+/// but for the line that "0 at most k" is `forged`, `times` of which clash
+/// with `others` of the two other constraints.
+fn at_most_one_less(forged: Constraint, times: u32, others: u32, k: i64) -> CertificateFile {
+    let part = |first: usize, q: u16| {
+        let [most, least, below] = [0, 1, 2].map(|i| on(3 * q + i));
+        let mut proof = Proof::new(first);
+        let fails = proof.property(q, &[opp(lit(2, q))]);
+        let either = proof.equation(2, q, 1, &[lit(2, q), below]);
+        let is_below = proof.join(either, fails, lit(2, q));
+        let is_most = proof.equation(0, q, 0, &[most]);
+        let is_least = proof.equation(1, q, 1, &[least]);
+        let weighted = [(most, times), (least, others), (below, others)];
+        let mut line = proof.arithmetic(&weighted.map(|(literal, m)| (opp(literal), m)));
+        for (unit, literal) in [(is_below, below), (is_most, most), (is_least, least)] {
+            line = proof.join(unit, line, literal);
+        }
+        proof.lines
+    };
+    let (base, step) = (part(0, 0), part(9, 1));
+    let constraints = [0, 1].map(|q| {
+        let mut forged = forged;
+        forged.terms[0].offset = q;
+        let least = Constraint::new(&[(1, q, -1)], 1 - k);
+        let below = Constraint::new(&[(0, q, -1), (1, q, 1)], -1);
+        [forged, least, below]
+    });
+    CertificateFile {
+        depth: 1,
+        constraints: constraints.concat(),
+        base,
+        step,
+        ..CertificateFile::default()
+    }
+}
+
+/// A bound that is not multiplied with its coefficients, or they not with it,
+/// says more than the equation does.
+#[test]
+fn a_factor_is_of_bound_and_coefficients_alike() {
+    let node = |k| {
+        let constants = [k, k - 1].map(|k| Record::constant(INT, k));
+        let records = [&constants[..], &[Record::at_most(0, 1)]].concat();
+        NodeFile::new(records, 2)
+    };
+    let most = |coefficient, bound| Constraint::new(&[(0, 0, coefficient)], bound);
+    assert_eq!(property_values(&node(5), 1), [0]);
+    assert_eq!(property_values(&node(-5), 1), [0]);
+    let bound_left = at_most_one_less(most(2, 5), 1, 2, 5);
+    refused(&node(5), &bound_left, 17, AtLine(3));
+    let coefficient_left = at_most_one_less(most(1, -10), 1, 1, -5);
+    refused(&node(-5), &coefficient_left, 17, AtLine(3));
+    // What the equation says, multiplied or not, does not clash.
+    for (times, factor) in [(2, 1), (1, 2)] {
+        let right = at_most_one_less(most(1, 5).times(factor), times, 2, 5);
+        refused(&node(5), &right, 20, AtLine(5));
+    }
 }
 
 /// A base that is right does not carry a step that is not, nor the other way

@@ -46,21 +46,13 @@ impl Term {
 }
 
 /// A constraint. Its terms rise strictly by variable and none is zero, so
-/// two constraints have the same content exactly if they are equal.
+/// that constraints of the same content have the same terms in the same order.
 #[derive(Clone, Copy, Debug)]
 pub struct Constraint {
     terms: [Term; MAX_TERMS],
     count: usize,
     bound: i64,
 }
-
-impl PartialEq for Constraint {
-    fn eq(&self, other: &Self) -> bool {
-        self.bound == other.bound && self.terms() == other.terms()
-    }
-}
-
-impl Eq for Constraint {}
 
 impl Constraint {
     /// "0 at most `bound`", to which terms are added.

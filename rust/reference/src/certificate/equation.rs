@@ -6,11 +6,11 @@ use super::Part;
 use crate::node::{Equation, Node, Type};
 
 /// A place in a clause of 01's list.
-#[derive(Clone, Copy, Debug, PartialEq, Eq)]
+#[derive(Clone, Copy, Debug)]
 pub enum Item {
     /// A literal on a bool stream.
     Literal(Literal),
-    /// A constraint, unnegated, meant by its content.
+    /// A constraint, unnegated, or a multiple of it.
     Constraint(Constraint),
 }
 
@@ -27,7 +27,7 @@ impl From<Constraint> for Item {
 }
 
 /// A clause of 01's list: one to three items.
-#[derive(Clone, Copy, Debug, PartialEq, Eq)]
+#[derive(Clone, Copy, Debug)]
 pub enum Clause {
     /// One item.
     One([Item; 1]),

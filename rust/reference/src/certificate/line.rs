@@ -233,7 +233,7 @@ impl<'a> Checker<'a> {
 
     /// Kind 1: "clause r, counted from 0, of stream p at offset q (base:
     /// below k; step: up to k). Literals equal the list below in its order,
-    /// constraints unnegated and compared by content."
+    /// constraints unnegated"; 02 says how these match.
     fn is_equation(&self, line: &Line, part: Part) -> bool {
         let offsets = match part {
             Part::Base => 0..self.depth,
@@ -257,8 +257,9 @@ impl<'a> Checker<'a> {
     fn is_item(&self, literal: Literal, item: &Item) -> bool {
         match (item, literal.atom()) {
             (Item::Literal(listed), _) => literal == *listed,
-            (Item::Constraint(content), Atom::Constraint(i)) => {
-                !literal.is_negated() && self.constraints.get(i) == Some(content)
+            (Item::Constraint(defined), Atom::Constraint(i)) => {
+                let written = self.constraints.get(i);
+                !literal.is_negated() && written.is_some_and(|w| w.is_multiple_of(defined))
             }
             (Item::Constraint(_), Atom::Stream { .. }) => false,
         }

@@ -197,6 +197,7 @@ pub fn certified() -> Vec<(NodeFile, CertificateFile)> {
     let mut pairs = vec![
         (two_bands_node(), two_bands_certificate()),
         (one_more(), one_more_certificate()),
+        (one_more(), one_more_certificate().times(2)),
         never(2, 7, 1),
         never(3, -5, 2),
     ];
