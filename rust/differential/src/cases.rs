@@ -5,11 +5,10 @@ use crate::damage::{damage, Layout};
 use crate::draft::{Draft, MAX_BLOCKS};
 use crate::forge;
 use crate::grow::{grow, Mix};
-use crate::miscuts::{spoiled, Way};
 use crate::nodes::{self, Taste};
 use crate::pool::Certified;
-use crate::prove;
 use crate::random::Random;
+use crate::{miscuts, misfactors, prove};
 use reference::build::{CertificateFile, NodeFile};
 use reference::certificate::Part;
 
@@ -70,7 +69,7 @@ fn padding(random: &mut Random) -> usize {
 /// A certificate of the pool among other lines, if they fit.
 fn from_pool(random: &mut Random, pool: &[Certified]) -> (NodeFile, CertificateFile, Expected) {
     let (node, found) = &pool[random.below(pool.len())];
-    let mut draft = Draft::new(node, found.depth);
+    let mut draft = Draft::drawn(random, node, found.depth);
     let whole = imported(random, &mut draft, found);
     let certificate = match whole {
         Some(()) => draft.finish(),
@@ -115,7 +114,7 @@ fn proved(random: &mut Random) -> (NodeFile, CertificateFile, Expected) {
 }
 
 fn proof(random: &mut Random, node: &NodeFile, depth: u8) -> Option<CertificateFile> {
-    let mut draft = Draft::new(node, depth);
+    let mut draft = Draft::drawn(random, node, depth);
     let count = padding(random).min(60);
     grow(random, &mut draft, Mix::ALL, count);
     prove::refute(&mut draft)?;
@@ -132,7 +131,8 @@ fn proof(random: &mut Random, node: &NodeFile, depth: u8) -> Option<CertificateF
 fn grown(random: &mut Random) -> (NodeFile, CertificateFile, Expected) {
     let taste = Taste::any(random);
     let node = nodes::node(random, taste);
-    let mut draft = Draft::new(&node, random.within(1, 8) as u8);
+    let depth = random.within(1, 8) as u8;
+    let mut draft = Draft::drawn(random, &node, depth);
     let count = 4 + padding(random).min(300);
     grow(random, &mut draft, Mix::ALL, count);
     let mut refuted = taste.truth && prove::refute(&mut draft).is_some();
@@ -152,9 +152,33 @@ fn grown(random: &mut Random) -> (NodeFile, CertificateFile, Expected) {
     (node, certificate, expected)
 }
 
-/// A proof with cuts before and after it in both parts. A way spoils one more
-/// at the end of either part, unless it finds nothing to spoil.
-pub fn among_cuts(random: &mut Random, way: Option<&Way>) -> Option<(NodeFile, CertificateFile)> {
+/// A proof among cuts; a way spoils one more.
+pub fn among_cuts(random: &mut Random, way: Option<&miscuts::Way>) -> Option<Certified> {
+    let spoil = way.map(|way| {
+        move |random: &mut Random, draft: &mut Draft| miscuts::spoiled(random, draft, way)
+    });
+    among(random, Mix::CUTS, None, spoil)
+}
+
+/// A proof among equations, with constraints multiplied through in all; a way
+/// spoils one more.
+pub fn among_factors(random: &mut Random, way: Option<&misfactors::Way>) -> Option<Certified> {
+    let spoil = way.map(|way| {
+        move |random: &mut Random, draft: &mut Draft| misfactors::spoiled(random, draft, way)
+    });
+    let factors = Random::new(random.bits());
+    among(random, Mix::EQUATIONS, Some(factors), spoil)
+}
+
+/// A proof with other lines before and after it in both parts, and a spoiled
+/// one at the end of either part, if one is wanted. Nothing if it is and there
+/// is nothing to spoil.
+fn among(
+    random: &mut Random,
+    mix: Mix,
+    factors: Option<Random>,
+    spoil: Option<impl Fn(&mut Random, &mut Draft) -> Option<u16>>,
+) -> Option<Certified> {
     let taste = Taste {
         ints: 8,
         truth: true,
@@ -162,16 +186,17 @@ pub fn among_cuts(random: &mut Random, way: Option<&Way>) -> Option<(NodeFile, C
     };
     let node = nodes::node(random, taste);
     let mut draft = Draft::new(&node, random.within(1, 8) as u8);
+    draft.factors = factors;
     let part = random.of([Part::Base, Part::Step]);
     for own in [Part::Base, Part::Step] {
         if own == Part::Step {
             draft.begin_step();
         }
-        grow(random, &mut draft, Mix::CUTS, 3);
+        grow(random, &mut draft, mix, 3);
         prove::refute(&mut draft)?;
-        grow(random, &mut draft, Mix::CUTS, 3);
-        if let Some(way) = way.filter(|_| own == part) {
-            spoiled(random, &mut draft, way)?;
+        grow(random, &mut draft, mix, 3);
+        if let Some(spoil) = spoil.as_ref().filter(|_| own == part) {
+            spoil(random, &mut draft)?;
         }
     }
     let certificate = draft.finish();

@@ -46,14 +46,29 @@ fn number(file: &[u8], at: usize, width: usize) -> i64 {
     i64::from_le_bytes(bytes)
 }
 
+/// A certificate file's counts of constraints, base lines and step lines.
+fn counts(certificate: &[u8]) -> [usize; 3] {
+    [12, 10, 8].map(|back| number(certificate, certificate.len() - back, 2) as usize)
+}
+
+/// The constraints and lines of a certificate file that passes 11 to 14.
+fn blocks(certificate: &[u8]) -> &[[u8; 80]] {
+    let front = &certificate[..certificate.len() - 16];
+    let (_, blocks) = front.as_rchunks();
+    &blocks[blocks.len() - counts(certificate).iter().sum::<usize>()..]
+}
+
+/// The constraints of a certificate file that passes 11 to 14.
+pub fn constraints(certificate: &[u8]) -> &[[u8; 80]] {
+    &blocks(certificate)[..counts(certificate)[0]]
+}
+
 /// The lines of a certificate file that passes 11 to 14, and whether each is
 /// a step line.
-pub fn lines(certificate: &[u8]) -> impl Iterator<Item = (bool, &[u8])> {
-    let front = &certificate[..certificate.len() - 16];
-    let count = |back| number(certificate, certificate.len() - back, 2) as usize;
-    let [base, step] = [10, 8].map(count);
-    let blocks = front[front.len() - 80 * (base + step)..].chunks(80);
-    blocks.enumerate().map(move |(i, line)| (i >= base, line))
+pub fn lines(certificate: &[u8]) -> impl Iterator<Item = (bool, &[u8; 80])> {
+    let [constraints, base, _] = counts(certificate);
+    let lines = blocks(certificate)[constraints..].iter().enumerate();
+    lines.map(move |(i, line)| (i >= base, line))
 }
 
 /// Where a right file's blocks begin, and how many of each there are.
@@ -73,8 +88,7 @@ impl Layout {
 
     /// The layout of a right certificate file for n streams.
     pub fn of_certificate(n: usize, file: &[u8]) -> Self {
-        let count = |back| number(file, file.len() - back, 2) as usize;
-        Layout::Certificate(n, [count(12), count(10), count(8)])
+        Layout::Certificate(n, counts(file))
     }
 
     /// The number of blocks, the trailer among them.
@@ -175,11 +189,9 @@ fn constraint(file: &[u8], at: usize, n: usize, depth: i64) -> Vec<Field> {
     let bounds = [0, limit, limit + 1, -limit, -limit - 1, i64::MIN, i64::MAX];
     fields.push(Field::new(at + 8, 8, bounds));
     let own = number(file, at + 8, 8);
-    fields.push(Field::new(
-        at + 8,
-        8,
-        [own.wrapping_sub(1), own.wrapping_add(1)],
-    ));
+    let near = [own.wrapping_sub(1), own.wrapping_add(1)];
+    fields.push(Field::new(at + 8, 8, near));
+    fields.push(Field::new(at + 8, 8, [own.wrapping_mul(2), own / 2]));
     for at in (16..80).step_by(8).map(|i| at + i) {
         fields.push(Field::new(at, 2, [0, n - 1, n, 63, 64, 256, 65_535]).around(file));
         fields.push(Field::new(at + 2, 1, [0, depth, depth + 1, 8, 9, 255]).around(file));
@@ -187,6 +199,7 @@ fn constraint(file: &[u8], at: usize, n: usize, depth: i64) -> Vec<Field> {
         let limit = 1_000_000_000;
         let c = [0, 1, -1, limit, limit + 1, -limit, -limit - 1, 1 << 31];
         fields.push(Field::new(at + 4, 4, c).around(file));
+        fields.push(Field::new(at + 4, 4, [2 * number(file, at + 4, 4)]));
     }
     fields
 }

@@ -1,7 +1,9 @@
 //! A certificate that grows line by line, the base first. What a draft adds
-//! is right by construction, or nothing is added.
+//! is right by construction; where there is no room it gives nothing.
 
 use crate::clauses::{clauses, Item};
+use crate::factors::{self, Multiple};
+use crate::random::Random;
 use reference::build::proof::resolvent;
 use reference::build::{lit, on, opp, CertificateFile, Constraint, Line, NodeFile};
 use reference::certificate::Part;
@@ -28,6 +30,9 @@ pub struct Draft<'a> {
     pub constraints: Vec<Constraint>,
     /// How many constraints it may have.
     pub limit: usize,
+    /// What draws the factors of constraints in equation lines; without it
+    /// they are written as they are defined.
+    pub factors: Option<Random>,
     numbers: HashMap<Vec<u8>, u16>,
     /// Its lines, base and step.
     pub lines: Vec<Line>,
@@ -43,11 +48,19 @@ impl<'a> Draft<'a> {
             depth,
             constraints: Vec::new(),
             limit: MAX_CONSTRAINTS,
+            factors: None,
             numbers: HashMap::new(),
             lines: Vec::new(),
             base: None,
             holders: HashMap::new(),
         }
+    }
+
+    /// Nothing yet; as often as not factors will be drawn.
+    pub fn drawn(random: &mut Random, node: &'a NodeFile, depth: u8) -> Self {
+        let mut draft = Draft::new(node, depth);
+        draft.factors = random.once_in(2).then(|| Random::new(random.bits()));
+        draft
     }
 
     /// The part being written.
@@ -126,17 +139,34 @@ impl<'a> Draft<'a> {
         Some(number)
     }
 
-    /// Adds clause r of stream p at offset q, if there is one.
+    /// Adds clause r of stream p at offset q, if there is one. Where its
+    /// constraints are written multiplied through, lines follow that bring
+    /// them back: the last has the clause's own literals.
     pub fn equation(&mut self, p: u16, q: u8, r: usize) -> Option<u16> {
         let listed = clauses(&self.node.records, self.part(), p, q);
-        let mut literals = Vec::new();
+        let (mut literals, mut multiples) = (Vec::new(), Vec::new());
         for item in listed.into_iter().nth(r)? {
             literals.push(match item {
                 Item::Literal(literal) => literal,
-                Item::AtMost(constraint) => self.literal_on(constraint)?,
+                Item::AtMost(defined) => {
+                    let multiple = self.multiple(defined)?;
+                    multiples.push(multiple);
+                    multiple.literal
+                }
             });
         }
-        self.add(Line::equation(p, q.into(), r as u16, &literals))
+        let line = self.add(Line::equation(p, q.into(), r as u16, &literals))?;
+        let mut multiples = multiples.iter();
+        multiples.try_fold(line, |line, multiple| multiple.struck(self, line))
+    }
+
+    /// A multiple of a defined constraint, or itself.
+    fn multiple(&mut self, defined: Constraint) -> Option<Multiple> {
+        let drawn = self.factors.as_mut().and_then(|random| {
+            let multiplied = random.once_in(2);
+            multiplied.then(|| factors::factor(random, &defined))?
+        });
+        Multiple::new(self, defined, drawn.unwrap_or(1))
     }
 
     /// Adds the property line of this part; the base has one alone, q = 0.
@@ -172,24 +202,31 @@ impl<'a> Draft<'a> {
     /// are looked up by content, its equation lines written anew from this
     /// crate's own list, its joins moved along.
     pub fn import(&mut self, from: &CertificateFile, lines: &[Line], first: usize) -> Option<()> {
-        let moved = self.lines.len();
-        let number = |old: u16| (usize::from(old) - first + moved) as u16;
+        let mut numbers = Vec::new();
         for line in lines {
-            if line.kind == 1 {
-                self.equation(line.p, line.q as u8, line.r.into())?;
-                continue;
-            }
-            let mut line = *line;
-            for literal in &mut line.literals[..usize::from(line.count)] {
-                *literal = self.imported(from, *literal)?;
-            }
-            if line.kind == 3 {
-                (line.p, line.q) = (number(line.p), number(line.q));
-                line.r = self.imported(from, line.r)?;
-            }
-            self.add(line)?;
+            numbers.push(match line.kind {
+                1 => self.equation(line.p, line.q as u8, line.r.into())?,
+                _ => self.import_line(from, *line, |old| numbers[usize::from(old) - first])?,
+            });
         }
         Some(())
+    }
+
+    /// Adds another certificate's line, if it is no equation.
+    fn import_line(
+        &mut self,
+        from: &CertificateFile,
+        mut line: Line,
+        number: impl Fn(u16) -> u16,
+    ) -> Option<u16> {
+        for literal in &mut line.literals[..usize::from(line.count)] {
+            *literal = self.imported(from, *literal)?;
+        }
+        if line.kind == 3 {
+            (line.p, line.q) = (number(line.p), number(line.q));
+            line.r = self.imported(from, line.r)?;
+        }
+        self.add(line)
     }
 
     fn imported(&mut self, from: &CertificateFile, literal: u16) -> Option<u16> {

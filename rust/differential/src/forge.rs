@@ -1,14 +1,14 @@
-//! 01's false turns and a cut below the floor: whole arguments for properties
-//! that fail, each right but for one turn, and single lines that take such a
-//! turn.
+//! 01's false turns, a cut below the floor and a bound or a coefficient that is
+//! not multiplied with the other: whole arguments for properties that fail,
+//! each right but for one turn, and single lines that take such a turn.
 
 use crate::clauses::{clauses, Item};
 use crate::draft::Draft;
 use crate::grow::{grow, Mix};
 use crate::linear::Linear;
-use crate::miscuts;
 use crate::prove::refute;
 use crate::random::Random;
+use crate::{miscuts, misfactors};
 use reference::build::proof::resolvent;
 use reference::build::{lit, multiples, opp, CertificateFile, Line, NodeFile, Record, BOOL, INT};
 use reference::certificate::Part;
@@ -16,17 +16,18 @@ use reference::certificate::Part;
 /// A node, a forged certificate for it, and the number that refuses it.
 pub type Forgery = (NodeFile, CertificateFile, u8);
 
-/// One of the five turns at some depth, with other right lines around it.
+/// One of the six turns at some depth, with other right lines around it.
 pub fn forgery(random: &mut Random) -> Forgery {
     let k = random.within(1, 8) as u8;
-    let (node, turn, number): (_, Turn, u8) = match random.below(5) {
+    let (node, turn, number): (_, Turn, u8) = match random.below(6) {
         0 => (first_instant_node(random, k), first_instant, 17),
         1 => (never_equal_node(), never_equal, 20),
         2 => (input_node(), both_signs, 19),
         3 => (multiple_node(random), below_the_floor, 22),
+        4 => (one_less_node(random), not_alike, 17),
         _ => (delayed_node(k), base_line_cited, 19),
     };
-    let mut draft = Draft::new(&node, k);
+    let mut draft = Draft::drawn(random, &node, k);
     let padding = random.of([0, 0, 3, 20]);
     grow(random, &mut draft, Mix::ALL, padding);
     let kept = turn(&mut draft);
@@ -205,14 +206,54 @@ fn below_the_floor(draft: &mut Draft) -> Option<u16> {
     None
 }
 
+/// 0 is k, 1 is k − 1, and 2 says that 0 is at most 1.
+fn one_less_node(random: &mut Random) -> NodeFile {
+    let k = random.of([1, 2, 5, 1_000_000, -1, -2, -5, -1_000_000]);
+    let constants = [k, k - 1].map(|k| Record::constant(INT, k));
+    let records = [&constants[..], &[Record::at_most(0, 1)]].concat();
+    NodeFile::new(records, 2)
+}
+
+/// "0 at most k" with one of its numbers multiplied, the coefficient where k
+/// is positive and else the bound: that says too much, and the three
+/// constraints clash.
+fn not_alike(draft: &mut Draft) -> Option<u16> {
+    let (offsets, q) = match draft.part() {
+        Part::Base => (0..draft.depth, 0),
+        Part::Step => (draft.depth..draft.depth + 1, draft.depth),
+    };
+    let (k, factor) = (draft.node.records[0].k.into(), i128::from(draft.depth) + 1);
+    let (coefficient, bound) = if k > 0 { (factor, k) } else { (1, factor * k) };
+    let mut left = draft.property(q)?;
+    for q in offsets {
+        let forged = Linear::bounded(bound)
+            .plus(coefficient, (q, 0))
+            .constraint()?;
+        let most = draft.literal_on(forged)?;
+        let is_most = draft.add(Line::equation(0, q.into(), 0, &[most]))?;
+        let is_least = draft.equation(1, q, 1)?;
+        let either = draft.equation(2, q, 1)?;
+        let (least, below) = (draft.clause(is_least)[0], draft.clause(either)[1]);
+        let times = coefficient as u32;
+        let sums = [(most, 1), (least, times), (below, times)];
+        let clash = draft.arithmetic(&sums.map(|(literal, times)| (opp(literal), times)))?;
+        let clash = draft.strike(clash, opp(most), is_most)?;
+        let clash = draft.strike(clash, opp(least), is_least)?;
+        left = draft.strike(left, opp(lit(2, q.into())), either)?;
+        left = draft.strike(left, below, clash)?;
+    }
+    None
+}
+
 /// Adds a line that takes a false turn, if the draft has what it needs.
 pub fn forged_line(random: &mut Random, draft: &mut Draft) -> Option<u16> {
-    match random.below(6) {
+    match random.below(7) {
         0 => as_first_instant(random, draft),
         1 => as_zero(random, draft),
         2 => as_both_signs(random, draft),
         3 => as_base_line(random, draft),
         4 => miscuts::miscut(random, draft).map(|(line, _)| line),
+        5 => misfactors::misfactor(random, draft),
         _ => as_other_sign(random, draft),
     }
 }

@@ -33,6 +33,14 @@ impl Mix {
         cuts: 2,
     };
 
+    /// Equations, and now and then another.
+    pub const EQUATIONS: Mix = Mix {
+        equations: 7,
+        joins: 1,
+        arithmetic: 1,
+        cuts: 1,
+    };
+
     /// Cuts, and now and then an equation.
     pub const CUTS: Mix = Mix {
         equations: 1,

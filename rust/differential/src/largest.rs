@@ -29,6 +29,9 @@ pub const KINDS: [Kind; 4] = [
     Kind::new("all", 8, MAX_CONSTRAINTS, [1, 1, 1, 0]),
 ];
 
+/// Equations of ints, each with a constraint.
+pub const OF_INTS: Kind = Kind::new("int equations", 10, 128, [1, 0, 0, 0]);
+
 /// Cuts, and arithmetic among them.
 pub const CUTS: Kind = Kind::new("cuts", 8, MAX_CONSTRAINTS, [0, 0, 1, 4]);
 

@@ -6,9 +6,10 @@
 //! * [`checker`] is what an implementation is compared by; [`by_reference`]
 //!   is `rust/reference`, [`twin`] a second path through any checker, and
 //!   `proved` (a feature) the proved library.
-//! * [`nodes`], [`draft`], [`grow`], [`cuts`], [`prove`], [`forge`], [`pool`]
-//!   and [`passes`] generate; [`damage`] and [`miscuts`] spoil; [`cases`]
-//!   mixes them. [`largest`] and [`alike`] generate what is measured.
+//! * [`nodes`], [`draft`], [`grow`], [`cuts`], [`factors`], [`prove`],
+//!   [`forge`], [`pool`] and [`passes`] generate; [`damage`], [`miscuts`] and
+//!   [`misfactors`] spoil; [`cases`] mixes them. [`largest`] and [`alike`]
+//!   generate what is measured.
 //! * [`compare`] compares, and prints seed and bytes where two differ;
 //!   [`tally`] counts what was met.
 //!
@@ -35,11 +36,13 @@ pub mod cuts;
 pub mod damage;
 pub mod draft;
 pub mod evaluator;
+pub mod factors;
 pub mod forge;
 pub mod grow;
 pub mod largest;
 pub mod linear;
 pub mod miscuts;
+pub mod misfactors;
 pub mod nodes;
 pub mod passes;
 pub mod pool;

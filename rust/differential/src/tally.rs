@@ -2,6 +2,7 @@
 
 use crate::checker::{Place, Refusal, Verdict};
 use crate::damage::lines;
+use crate::factors::multiplied;
 use std::collections::BTreeMap;
 use std::fmt;
 
@@ -15,6 +16,9 @@ pub struct Tally {
     pub depths: BTreeMap<u8, u64>,
     /// Lines that passed, of accepted and refused certificates, by kind.
     pub kinds: BTreeMap<u8, u64>,
+    /// Accepted certificates with an equation line whose constraint is
+    /// multiplied through, by a factor of at least 2.
+    pub multiplied: u64,
     /// The most lines of an accepted certificate.
     pub longest: u64,
     /// The highest line refused.
@@ -31,6 +35,7 @@ impl Tally {
             *self.depths.entry(accepted.depth).or_default() += 1;
             let lines = u64::from(accepted.base) + u64::from(accepted.step);
             self.longest = self.longest.max(lines);
+            self.multiplied += u64::from(multiplied(certificate).next().is_some());
         }
         if let Err(Refusal {
             place: Place::Line(line),
@@ -87,6 +92,7 @@ impl fmt::Display for Tally {
         if !self.depths.is_empty() {
             let (longest, deepest) = (self.longest, self.deepest);
             write!(f, "; accepted by depth {:?}", self.depths)?;
+            write!(f, ", {} with a factor", self.multiplied)?;
             write!(f, ", lines passed by kind {:?}", self.kinds)?;
             write!(
                 f,

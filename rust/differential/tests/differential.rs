@@ -8,15 +8,14 @@ use differential::cases::{self, Expected};
 use differential::checker::{Checker, Record};
 use differential::compare::{self, Origin};
 use differential::damage::{lines, Layout};
-use differential::draft::MAX_BLOCKS;
-use differential::miscuts::WAYS;
+use differential::draft::{Draft, MAX_BLOCKS};
 use differential::pool::{pool, Certified};
 use differential::random::Random;
 use differential::tally::Tally;
 use differential::twin::Twin;
-use differential::{forge, largest, passes};
-use reference::build::multiples;
+use differential::{forge, largest, miscuts, misfactors, passes};
 use reference::build::proof::{two_bands_certificate, two_bands_node};
+use reference::build::{multiples, CertificateFile};
 use std::collections::BTreeMap;
 use std::sync::LazyLock;
 use std::time::Instant;
@@ -125,6 +124,8 @@ fn pairs() {
         assert!(tally.of_depth(depth) >= all / 500, "depth {depth}: {tally}");
     }
     assert!(tally.longest > 500, "{tally}");
+    assert!(tally.multiplied >= all / 40, "{tally}");
+    assert!(tally.of(17) >= all / 40, "{tally}");
 }
 
 #[test]
@@ -170,7 +171,8 @@ fn every_field() {
         multiples::node(2, 7),
         multiples::certificate(2, 7, 1, multiples::bounds(2, 7)),
     );
-    for (node, certificate) in [&two_bands, counter, &by_cuts] {
+    let multiplied = multiplied(counter);
+    for (node, certificate) in [&two_bands, counter, &by_cuts, &multiplied] {
         let (node, certificate) = (node.bytes(), certificate.bytes());
         let layout = Layout::of_node(&node);
         for wrong in each_value(layout, &node) {
@@ -185,6 +187,18 @@ fn every_field() {
     }
     println!("every field: {tally}");
     assert!(tally.of(22) >= 50, "{tally}");
+    assert!(tally.multiplied >= 50, "{tally}");
+}
+
+/// The same argument with constraints multiplied through.
+fn multiplied((node, certificate): &Certified) -> Certified {
+    let CertificateFile { base, step, .. } = certificate;
+    let mut draft = Draft::new(node, certificate.depth);
+    draft.factors = Some(Random::new(3));
+    draft.import(certificate, base, 0).expect("room");
+    draft.begin_step();
+    draft.import(certificate, step, base.len()).expect("room");
+    (node.clone(), draft.finish())
 }
 
 /// The file with each value in each field of each block.
@@ -255,7 +269,7 @@ fn spoiled_cuts() {
     for case in 0..11_000 {
         let origin = Origin { seed: 9, case };
         let mut random = Random::of_case(9, case);
-        let way = WAYS.get(case as usize % (2 * WAYS.len()));
+        let way = miscuts::WAYS.get(case as usize % (2 * miscuts::WAYS.len()));
         let Some((node, certificate)) = cases::among_cuts(&mut random, way) else {
             continue;
         };
@@ -265,11 +279,38 @@ fn spoiled_cuts() {
         *met.entry(way.map(|way| way.name)).or_insert(0) += 1;
     }
     println!("spoiled cuts: {tally}; {met:?}");
-    for way in &WAYS {
+    for way in &miscuts::WAYS {
         assert!(met.get(&Some(way.name)) >= Some(&50), "{}", way.name);
     }
     assert!(tally.of(0) > 4_000 && tally.of(22) > 3_000, "{tally}");
     assert!(tally.of_kind(5) > 50_000, "{tally}");
+}
+
+/// A proof among multiplied equation lines is accepted; with a line that goes
+/// wrong in some way it is refused by the way's number. Each way is met often
+/// enough.
+#[test]
+fn spoiled_factors() {
+    let mut tally = Tally::default();
+    let mut met = BTreeMap::new();
+    for case in 0..11_000 {
+        let origin = Origin { seed: 11, case };
+        let mut random = Random::of_case(11, case);
+        let way = misfactors::WAYS.get(case as usize % (2 * misfactors::WAYS.len()));
+        let Some((node, certificate)) = cases::among_factors(&mut random, way) else {
+            continue;
+        };
+        let expected = way.map_or(Expected::Accepted, |way| Expected::Refused(way.number));
+        let pair = ((node.bytes(), certificate.bytes()), expected);
+        checked(origin, &mut random, pair, &mut tally);
+        *met.entry(way.map(|way| way.name)).or_insert(0) += 1;
+    }
+    println!("spoiled factors: {tally}; {met:?}");
+    for way in &misfactors::WAYS {
+        assert!(met.get(&Some(way.name)) >= Some(&50), "{}", way.name);
+    }
+    assert!(tally.of(0) > 4_000 && tally.of(17) > 3_000, "{tally}");
+    assert!(tally.multiplied > 3_000, "{tally}");
 }
 
 /// Certificates that leave no room for one line more, and damaged copies.
@@ -277,12 +318,15 @@ fn spoiled_cuts() {
 fn largest_files() {
     let mut tally = Tally::default();
     let mut random = Random::new(6);
-    let kinds = [&largest::KINDS[..], &[largest::CUTS]].concat();
-    for case in 0..60 {
-        let kind = kinds[case % 5];
+    let kinds = [&largest::KINDS[..], &[largest::CUTS, largest::OF_INTS]].concat();
+    for case in 0..72 {
+        let kind = kinds[case % 6];
         let node = largest::node(&mut random, kind.ints);
-        let depth = 1 + (case / 5 % 8) as u8;
-        let certificate = largest::certificate(&mut random, &node, depth, kind, MAX_BLOCKS);
+        let depth = 1 + (case / 6 % 8) as u8;
+        let mut certificate = largest::certificate(&mut random, &node, depth, kind, MAX_BLOCKS);
+        if case % 6 == 5 {
+            certificate = certificate.times(random.of([2, 1_000_000]));
+        }
         let mut file = certificate.bytes();
         assert!(file.len() > 64_000, "{}", file.len());
         file.splice(..0, vec![0xA5; 65_535 - file.len()]);
@@ -300,6 +344,7 @@ fn largest_files() {
     }
     println!("largest: {tally}");
     assert_eq!(tally.longest, MAX_BLOCKS as u64);
+    assert!(tally.multiplied >= 12, "{tally}");
 }
 
 /// What a line of kind 1 is of: part, whether at offset 0, operator, type and
