@@ -1,6 +1,8 @@
 //! Times of each checker on the same input in the same run: verdicts on large
-//! and small certificates, instants of a node of 64 streams, and cuts beside
-//! arithmetic lines.
+//! and small certificates, instants of a node of 64 streams, cuts beside
+//! arithmetic lines, and equation lines with multiplied constraints beside
+//! the same lines without. These are last: a library from before 02's S-2
+//! refuses them.
 //!
 //! `cargo run --offline --release --bin bench`; with
 //! `--no-default-features` the reference alone. The checkers take turns in
@@ -197,6 +199,33 @@ fn cuts(random: &mut Random) {
     }
 }
 
+/// What an equation line costs where its constraint is multiplied through,
+/// beside the same line where it is not.
+fn factors(random: &mut Random) {
+    let kind = largest::OF_INTS;
+    let node = largest::node(random, kind.ints);
+    let plain = largest::certificate(random, &node, 2, kind, MAX_BLOCKS);
+    verdict(kind.name, &node, &plain);
+    for factor in [2, 1_000_000] {
+        let name = format!("times {factor}");
+        let multiplied = plain.clone().times(factor);
+        verdict(&name, &node, &multiplied);
+        let files = [&repeated(&plain, 0), &plain, &multiplied].map(CertificateFile::bytes);
+        for &checker in CHECKERS {
+            let Costs {
+                a_line: [once, times],
+                ratio: [ratio, low, high],
+            } = costs(checker, &node.bytes(), &files, [lines(&plain); 2]);
+            println!(
+                "{:<40} {:<10} {times:.1} ns a line, {once:.1} without a factor: \
+                 ratio {ratio:.2} ({low:.2} to {high:.2})",
+                format!("{name}: the same lines"),
+                checker.name(),
+            );
+        }
+    }
+}
+
 /// A certificate whose parts have the same lines some times over.
 fn repeated(certificate: &CertificateFile, times: usize) -> CertificateFile {
     let (base, step) = (&certificate.base, &certificate.step);
@@ -270,4 +299,5 @@ fn main() {
     verdicts(&mut random);
     instants(&mut random);
     cuts(&mut random);
+    factors(&mut random);
 }
