@@ -3,11 +3,12 @@
 //! They write what they are given, right or wrong, and share no code with
 //! the readers. [`proof`] keeps a part's lines and works out joins,
 //! [`search`] finds certificates, [`multiples`] writes some by cuts,
-//! [`factors`] multiplies constraints through, [`random`] draws nodes and
-//! damages files.
+//! [`factors`] multiplies constraints through and [`orders`] has some that
+//! are, [`random`] draws nodes and damages files.
 
 pub mod factors;
 pub mod multiples;
+pub mod orders;
 pub mod proof;
 pub mod random;
 pub mod search;

@@ -10,7 +10,7 @@ use examples::{
     one_more_certificate, ring, ten_at_most, twins,
 };
 use reference::build::search::certificate;
-use reference::build::{CertificateFile, NodeFile};
+use reference::build::{orders, CertificateFile, NodeFile};
 use reference::certificate::check;
 
 /// The certificate found for the node.
@@ -105,6 +105,13 @@ fn constraints_multiplied_through() {
     }
     let largest = one_more_certificate().times(1_000_000_000);
     accepted(&one_more(), &largest);
+}
+
+#[test]
+fn either_order() {
+    for factors in [[1, 1], [2, 3], [1, 1_000_000], [1_000_000_000; 2]] {
+        accepted(&orders::node(), &orders::certificate(factors));
+    }
 }
 
 /// Three constraints, each by a factor of its own, add up by multipliers that

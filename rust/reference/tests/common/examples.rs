@@ -6,7 +6,7 @@ use reference::build::proof::{two_bands_certificate, two_bands_node, Proof};
 use reference::build::{
     lit, on, opp, CertificateFile, Constraint, Line, NodeFile, Record, BOOL, INT,
 };
-use reference::build::{multiples, search};
+use reference::build::{multiples, orders, search};
 
 /// 0 zero; 1 one; 2 c = zero -> pre (c + one); 4 c is not below zero.
 pub fn counter() -> NodeFile {
@@ -198,6 +198,7 @@ pub fn certified() -> Vec<(NodeFile, CertificateFile)> {
         (two_bands_node(), two_bands_certificate()),
         (one_more(), one_more_certificate()),
         (one_more(), one_more_certificate().times(2)),
+        (orders::node(), orders::certificate([2, 3])),
         never(2, 7, 1),
         never(3, -5, 2),
     ];
