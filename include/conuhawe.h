@@ -55,7 +55,7 @@ enum {
     CONUHAWE_CERTIFICATE_DISTANCE = 14,
     CONUHAWE_CONSTRAINT_SHAPE = 15,
     CONUHAWE_LINE_SHAPE = 16,
-    CONUHAWE_EQUATION_LINE = 17,
+    CONUHAWE_EQUATION_LINE = 17, /* each constraint may be written times one whole number of at least 1 */
     CONUHAWE_PROPERTY_LINE = 18,
     CONUHAWE_JOIN_LINE = 19,
     CONUHAWE_ARITHMETIC_LINE = 20,

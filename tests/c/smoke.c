@@ -69,6 +69,10 @@ static void check_files(file node, file cert)
     n[16 * 3] = 14;
     expect("operator 14", conuhawe_read(n, node.length), CONUHAWE_RECORD_SHAPE, CONUHAWE_RECORD, 3, 0, 0, 0);
     n[16 * 3] = 3;
+    /* line 1, {5, 4} of stream 5's equation, becomes {!5, 4} */
+    c[80 * 1 + 8] ^= 1;
+    expect("equation", conuhawe_check(n, node.length, c, cert.length), CONUHAWE_EQUATION_LINE, CONUHAWE_LINE, 1, 0, 0, 0);
+    c[80 * 1 + 8] ^= 1;
     /* line 2, a join of lines 0 and 1, cites line 0 twice */
     c[80 * 2 + 4] = 0;
     expect("join", conuhawe_check(n, node.length, c, cert.length), CONUHAWE_JOIN_LINE, CONUHAWE_LINE, 2, 0, 0, 0);

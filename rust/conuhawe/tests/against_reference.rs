@@ -6,7 +6,7 @@ mod common;
 use common::two_bands;
 use conuhawe::Session;
 use reference::build::random::{self, damage, Random};
-use reference::build::{multiples, search, BOOL, INT};
+use reference::build::{multiples, orders, search, BOOL, INT};
 use reference::node::{self, Type};
 use reference::{certificate, session};
 use std::collections::BTreeSet;
@@ -25,12 +25,18 @@ fn never(m: u16, k: i32) -> Pair {
     (multiples::node(m, k).bytes(), certificate.bytes())
 }
 
-/// The two bands, nodes proved by cuts, and random nodes that have a
-/// certificate.
+/// Of two numbers one is at most the other, by constraints multiplied through.
+fn either_order(factors: [i64; 2]) -> Pair {
+    (orders::node().bytes(), orders::certificate(factors).bytes())
+}
+
+/// The two bands, nodes proved by cuts, one by multiplied constraints, and
+/// random nodes that have a certificate.
 fn seeds(random: &mut Random) -> Vec<Pair> {
     let mut pairs = vec![two_bands()];
     let cuts = [(2, 7), (2, -7), (65_535, 1), (1_000, -999_999_999)];
     pairs.extend(cuts.map(|(m, k)| never(m, k)));
+    pairs.extend([[2, 2], [2, 3], [1_000_000_000; 2]].map(either_order));
     for i in 0..300 {
         let node = random::node(random, 3 + i % 9).bytes();
         let depth = [1, 1, 2, 3][random.below(4)];
