@@ -9,13 +9,14 @@ beside it. The data and stdout of crates/check_certificate are written too.
 """
 import cut_cases
 import example_proofs
+import factor_cases
 import parity_proofs
 from booking_proofs import LATE, base_for_step, start_only
 from certificate_files import (BOUND, COEFFICIENT, MULTIPLIER, Certificate, Line, Proof, constraint, cut, lit, on, opp, term,
                                trailer)
 from node_files import BOOL, INPUT, INT, TWO_BANDS, node, rec, replaced, write_data, write_lines
 
-NODES = {**example_proofs.NODES, **parity_proofs.NODES}
+NODES = {**example_proofs.NODES, **parity_proofs.NODES, "factors": factor_cases.NODE}
 CASES = []
 # Of depth 1. Base lines 0 to 11 and step lines 12 to 23; no constraints.
 BANDS = example_proofs.two_bands()
@@ -373,6 +374,62 @@ def of_cuts():
     counter("22-before-21", after(*wrong).changed(6, literals=(lit(4),)), 22, "line 28")
 
 
+def whole_proofs_multiplied():
+    """Certificates from above with constraints multiplied through, accepted as they were: sums of kind 4 are twelvefold."""
+    factors = (2, 3, 12, 1, 4, 6)
+    for name, node_name, proof, *says in (
+            ("counter-depth-8", "counter", example_proofs.counter(8), 8, 126, 21),
+            ("countdown-depth-2", "countdown", example_proofs.countdown(2), 2, 26, 23),
+            ("double", "double", example_proofs.double(), 1, 15, 15),
+            ("absolute", "absolute", example_proofs.absolute(), 1, 20, 20),
+            ("itself", "itself", example_proofs.itself(), 1, 5, 5)):
+        accepted(f"factors-{name}", node_name, factor_cases.multiplied(proof, factors, 12), *says)
+    # with no line of kind 4: every clause at every offset; the greatest for a coefficient of 3
+    every = example_proofs.all_operators()
+    for name, factors in (("each-another", range(1, 257)), ("333333333", (333_333_333,))):
+        accepted(f"factors-all-operators-{name}", "all-operators", factor_cases.multiplied(every, factors), 2, 92, 128)
+    # all alike, so that multipliers of 1 still fit; and one alone, where those of line 3 don't
+    accepted("factors-counter-2", "counter", factor_cases.multiplied(COUNTER, (2,), 2), 1, 7, 21)
+    alone = COUNTER.with_constraint(0, factor_cases.scaled(COUNTER.constraints[0], 2))
+    counter("20-multiple-of-one-alone", alone, 20, "line 3")
+    # sums of kind 5 are twice what they were, so that r is 4; line 10 is the first cut
+    pairs = parity_proofs.pairs_of_minutes()
+    accepted("factors-pairs-of-minutes", "pairs-of-minutes", factor_cases.equations_doubled(pairs, 4), 1, 34, 34)
+    refused("22-multiple-r-2", "pairs-of-minutes", factor_cases.equations_doubled(pairs, 2), 22, "line 10")
+
+
+def of_factors():
+    """Most of the wrong ones are one line more after the proof, in the step. Other kinds take a constraint as it is written."""
+    def factors(name, data, number, place):
+        refused(f"{number}-multiple-{name}", "factors", data, number, place)
+
+    for name, (proof, lines) in factor_cases.right().items():
+        accepted(f"factors-{name}", "factors", proof, 1, lines, lines)
+    # sixteen lines and five, sixteen and three
+    accepted("factors-depth-2", "factors", factor_cases.of_depth_2(), 2, 21, 19)
+    for name, line in factor_cases.wrong().items():
+        factors(name, factor_cases.after(1, line), 17, "line 6")
+    factors("bound-not-scaled-in-base", factor_cases.whole(
+        lambda proof: factor_cases.equation(proof, 0, *factor_cases.hundreds(2, 100))), 17, "line 0")
+    for s in ("arrow", "pre"):
+        factors(f"of-{s}-at-step-offset-0", factor_cases.after(0, (s, 0, ({s: 2, "a": -2}, 0))), 17, "line 6")
+    for name, proof in factor_cases.past_limits().items():
+        factors(f"of-{name}-past-limit", proof, 15, "constraint 1")
+
+    factors("in-property", factor_cases.in_property(), 18, "line 7")
+    accepted("factors-join", "factors", factor_cases.joined(2), 1, 3, 6)
+    accepted("factors-left-by-join", "factors", factor_cases.left_by_join(2), 1, 3, 6)
+    factors("is-another-atom", factor_cases.joined(1), 19, "line 8")
+    factors("in-place-of-literal", factor_cases.left_by_join(1), 19, "line 8")
+    accepted("factors-arithmetic", "factors", factor_cases.by_arithmetic(1, 2), 1, 3, 6)
+    for multipliers in ((1, 1), (2, 1)):
+        factors("times-{}-and-{}".format(*multipliers), factor_cases.by_arithmetic(*multipliers), 20, "line 7")
+    accepted("factors-cut", "factors", factor_cases.by_cut(1, 2), 1, 3, 6)
+    accepted("factors-cut-to-itself", "factors", factor_cases.by_cut(2, 1), 1, 3, 6)
+    for factor, r in ((1, 1), (2, 2)):
+        factors(f"cut-to-{factor}-r-{r}", factor_cases.by_cut(factor, r), 22, "line 7")
+
+
 def of_parts():
     no_base = Proof(1)
     no_base.begin_step()
@@ -429,7 +486,7 @@ def false_turns():
 
 def main():
     for cases in (whole_proofs, allowed, of_the_node, of_the_file, of_constraints, of_any_kind, of_equations, of_properties,
-                  of_joins, of_arithmetic, of_cuts, of_parts, false_turns):
+                  of_joins, of_arithmetic, of_cuts, whole_proofs_multiplied, of_factors, of_parts, false_turns):
         cases()
     nodes = {f"{name}.node": data for name, data in NODES.items()}
     write_data("check_pairs", {**nodes, **{name: data for _, name, data, _ in CASES}})
