@@ -10,13 +10,14 @@ beside it. The data and stdout of crates/check_certificate are written too.
 import cut_cases
 import example_proofs
 import factor_cases
+import half_minute_proofs
 import parity_proofs
 from booking_proofs import LATE, base_for_step, start_only
 from certificate_files import (BOUND, COEFFICIENT, MULTIPLIER, Certificate, Line, Proof, constraint, cut, lit, on, opp, term,
                                trailer)
 from node_files import BOOL, INPUT, INT, TWO_BANDS, node, rec, replaced, write_data, write_lines
 
-NODES = {**example_proofs.NODES, **parity_proofs.NODES, "factors": factor_cases.NODE}
+NODES = {**example_proofs.NODES, **parity_proofs.NODES, **half_minute_proofs.NODES, "factors": factor_cases.NODE}
 CASES = []
 # Of depth 1. Base lines 0 to 11 and step lines 12 to 23; no constraints.
 BANDS = example_proofs.two_bands()
@@ -68,6 +69,8 @@ def whole_proofs():
     accepted("pairs-of-minutes", "pairs-of-minutes", parity_proofs.pairs_of_minutes(), 1, 34, 34)
     without_cuts = parity_proofs.pairs_of_minutes(halve=parity_proofs.by_arithmetic)
     accepted("pairs-of-minutes-without-cuts", "pairs-of-minutes", without_cuts, 1, 34, 34)
+    accepted("half-minutes", "half-minutes", half_minute_proofs.half_minutes(), 1, 28, 34)
+    accepted("half-minutes-as-defined", "half-minutes", half_minute_proofs.as_defined(), 1, 28, 34)
     # 44 clauses an offset; 36 at step offset 0
     accepted("all-operators", "all-operators", example_proofs.all_operators(), 2, 92, 128)
 
@@ -465,8 +468,8 @@ def both_signs_struck():
 
 
 def false_turns():
-    """The properties of the late nodes, of the wish and of the forged pairs fail. The counter's holds, but not by lines that
-    drop the -1."""
+    """The properties of the late nodes, of the wish, of the forged pairs and of the forged minutes fail. The counter's holds, but
+    not by lines that drop the -1."""
     # 3 = true -> pre 2 fails at instant 2, where 2 = true -> pre 1 or true -> 1, an input
     NODES["late"] = node(LATE, 3)
     NODES["late-arrow"] = node(replaced(LATE, 2, rec(12, BOOL, 0, 1)), 3)
@@ -482,6 +485,9 @@ def false_turns():
     refused("false-turn-cut-below-floor", "forged-pairs", parity_proofs.forged(), 22, "line 58")
     forged = parity_proofs.pairs_of_minutes(2, parity_proofs.by_arithmetic)
     refused("false-turn-without-cuts", "forged-pairs", forged, 20, "line 58")
+    refused("false-turn-bound-not-scaled", "forged-minutes", half_minute_proofs.forged(), 17, "line 8")
+    # and with the bound that it should have
+    refused("false-turn-bound-scaled", "forged-minutes", half_minute_proofs.half_minutes(60), 20, "line 9")
 
 
 def main():
