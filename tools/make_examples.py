@@ -11,11 +11,13 @@ from dataclasses import dataclass
 
 import booking_proofs
 import example_proofs
+import half_minute_proofs
 import parity_proofs
 from certificate_files import Certificate
 from node_files import ROOT, node
 
-NODES = {**example_proofs.NODES, **booking_proofs.NODES, **parity_proofs.NODES, "forged": node(booking_proofs.LATE, 3)}
+NODES = {**example_proofs.NODES, **booking_proofs.NODES, **parity_proofs.NODES, **half_minute_proofs.NODES,
+         "forged": node(booking_proofs.LATE, 3)}
 TYPES = ("bool", "int")
 # by operator
 EQUATIONS = ("input", "{k}", "not {a}", "{a} and {b}", "{a} or {b}", "{a} same as {b}", "{a} + {b}", "{a} - {b}", "{k} * {a}",
@@ -75,6 +77,10 @@ def pairs(later):
     return tuple((name.format(later=later), meaning) for name, meaning in PAIRS)
 
 
+HALVES = (("asked", "minutes asked for"), ("zero", "a constant"), ("slots", "the slots of a pass"),
+          ("room", "their minutes, 20 each"), ("before", "minutes booked up to one instant before"),
+          ("sum", "these and those asked for"), ("fits", "there is room for them"), ("booked", "minutes booked"),
+          ("halves", "their half minutes"), ("pass", "how many half minutes a pass has"), ("fine", "the property"))
 EXAMPLES = (
     Example(
         "two-bands", "Two bands, one dish",
@@ -213,6 +219,37 @@ EXAMPLES = (
         Written so, this certificate is accepted with 34 and 34 lines, 0 more. What kind 5 adds is that a solver's cut stands
         there as the solver made it, divided and rounded, with the least bound that follows."""),
     Example(
+        "half-minutes", "Half minutes",
+        """In a pass of a satellite a dish has three slots of 20 minutes. At each instant some minutes are asked for, and booked if
+        there is room for them beside those booked before; if not, nothing is. Asking for a negative number gives minutes back.
+        The dish's clock counts half minutes, and what is to be kept is said in these.""",
+        HALVES,
+        "the half minutes booked are at most 120, those of a pass.",
+        "1. Either more is booked now, and `room` limits it, or what is booked was so one instant before.",
+        """the solver that wrote it reckons in half minutes throughout. What is in half minutes it writes as it is, what is in
+        minutes times 2, and what is in slots times 40: for "`sum` is at most `room`" it writes 2 `sum` - 2 `room` at most 0, and
+        for "`slots` is at most 3" 40 `slots` at most 120. An equation line takes a constraint that is the defined one times a
+        whole number from 1 on, bound and coefficients alike, for each constraint its own. Say there are over 120 `halves`, which
+        are twice `booked`. Where `fits` holds, `booked` is `sum`, and that is at most `room`, 20 times `slots`. Where it
+        doesn't, `booked` is `before`: 0 at instant 0, and later the `booked` of one instant before, twice which is at most 120
+        by the property. In both cases the constraints, added up as they are written, say 0 is at most a negative number.""",
+        half_minute_proofs.half_minutes(), "accepted depth 1 base 28 step 34",
+        (("0 to 2", "28 to 30", "the property fails: `pass` - `halves` is at most -1"),
+         ("3, 4", "31, 32", "equations, as defined: `halves` - 2 `booked` is at most 0; -`pass` at most -120"),
+         ("5, 6", "33, 34", "equations, times 2: `!fits`, or 2 `booked` - 2 `sum` is at most 0; `!fits`, or 2 `sum` - 2 `room` is"),
+         ("7", "35", "equation, times 2: 2 `room` - 40 `slots` is at most 0"),
+         ("8", "36", "equation, times 40: 40 `slots` is at most 120"),
+         ("9 to 16", "37 to 44", "arithmetic with multipliers 1: these seven don't hold together; joins with them: `{!fits}`"),
+         ("17", "45", "equation, times 2: `fits`, or 2 `booked` - 2 `before` is at most 0"),
+         ("18, 19", "46 to 51", "equations, those on minutes times 2: `before` is at most `zero`, and `zero` at most 0 (step: "
+          "`before` is at most `booked` of one instant before, twice that at most `halves`, these at most `pass` by the property, "
+          "and `pass` at most 120)"),
+         ("20 to 26", "52 to 60", "arithmetic with multipliers 1, and joins: `{fits}`"),
+         ("27", "61", "join: `{ }`")),
+        """With its constraints as they are defined the certificate has as many lines and is accepted too; lines 9, 20, 37 and 52
+        then have multipliers 2 and 40 where these have 1. Lines of the other kinds take a constraint as it is written: joins
+        cite this constraint and no multiple of it, and arithmetic adds up the coefficients that stand there."""),
+    Example(
         "forged", "A forged certificate",
         """A licence office says at each instant whether a licence is valid, and its word takes two instants to arrive at the
         booking desk. Until then the desk takes the licence to be valid.""",
@@ -240,6 +277,20 @@ EXAMPLES = (
         round down. All lines after it would stand, up to the empty one: a checker that doesn't look at the bound of a cut
         would accept a false property. As a line of kind 4 it would be refused with 20.""",
         parity_proofs.forged(), "refused 22 line 58"),
+    Example(
+        "forged-minutes", "A forged bound",
+        """The node of half-minutes, but passes are half as long: 60 half minutes. The slots are as before.""",
+        HALVES,
+        """the half minutes booked are at most 60, those of a pass. This is false: where 60 minutes are asked for at instant 0 they
+        are booked, and these are 120 half minutes.""",
+        "1, but no depth would do.",
+        """its lines are those of half-minutes, byte for byte, and its constraints too, but for five. Three say 60 of `pass` in
+        place of 120. The other two, one for each part, say that 40 `slots` is at most 3: the coefficient of "`slots` is at most
+        3" is multiplied and the bound is not. Line 8 has the first of them and is refused with 17, for 40 times the defined
+        constraint has bound 120. But for line 36, which has the second, all lines after it would stand, up to the empty ones: a
+        checker that multiplies coefficients alone would accept a false property. With the bound 120 in both, line 9 would be
+        refused with 20.""",
+        half_minute_proofs.forged(), "refused 17 line 8"),
 )
 
 PAGE = """# Examples

@@ -14,7 +14,7 @@ use std::fs;
 use std::process::Command;
 
 /// The folders that are refused, by name.
-const FORGED: [&str; 2] = ["forged", "forged-pairs"];
+const FORGED: [&str; 3] = ["forged", "forged-minutes", "forged-pairs"];
 
 #[test]
 fn every_verdict_is_as_written() {
@@ -65,7 +65,7 @@ fn only_the_forged_are_refused() {
     let refused = |folder: &&Folder| !folder.verdict.starts_with("accepted");
     let names: Vec<&str> = folders.iter().filter(refused).map(Folder::name).collect();
     assert_eq!(names, FORGED);
-    assert_eq!(folders.len(), 10);
+    assert_eq!(folders.len(), 12);
 }
 
 /// Inputs for one instant.
@@ -172,4 +172,14 @@ fn a_tone_put_one_minute_on_meets_a_booking() {
     let slots = [[1, 0], [1, 0], [-2, -3]];
     assert_eq!(run("pairs-of-minutes", &slots, 9), [1, 1, 1]);
     assert_eq!(run("forged-pairs", &slots, 9), [1, 0, 0]);
+}
+
+#[test]
+fn minutes_are_booked_while_the_slots_have_room() {
+    let asked = [[60], [1], [-10], [11], [10]];
+    let halves = [120, 120, 100, 100, 120];
+    assert_eq!(run("half-minutes", &asked, 8), halves);
+    assert_eq!(run("half-minutes", &asked, 10), [1; 5]);
+    assert_eq!(run("forged-minutes", &asked, 8), halves);
+    assert_eq!(run("forged-minutes", &asked, 10), [0; 5]);
 }
