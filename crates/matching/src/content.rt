@@ -64,14 +64,15 @@ fn do_agree(file: &[u8], at: usize, count: usize, d: Linear, x: u32) -> bool
     same_number(coefficient_at(file, at, count, x), coefficient_of(d, x))
 }
 
-// They agree at each variable of d.
-fn do_variables_agree(file: &[u8], at: usize, count: usize, d: Linear) -> bool
+// They agree at each variable of d. `first` is the file's coefficient at the first of them, which the caller has summed.
+fn do_variables_agree(file: &[u8], at: usize, count: usize, d: Linear, first: i64) -> bool
     requires { ⌜ (at + 80 ≤ length (now file)) × (count ≤ 8) × Summable d ⌝ }
+    requires { ⌜ first ≡ coefficient (written (constraintAt (now file) at) count) (d .x) ⌝ }
     ensures { λ z. ⌜ z ≡ agreeAt (written (constraintAt (now (file .entry)) at) count) (boundedOf d .form) (boundedOf d .form) ⌝ }
 {
     do_agree(file, at, count, d, d.z)
         & do_agree(file, at, count, d, d.y)
-        & do_agree(file, at, count, d, d.x)
+        & same_number(first, coefficient_of(d, d.x))
 }
 
 // They agree at x, where they do at each variable of d. Most terms are on one of those, and need no sum.
@@ -103,14 +104,15 @@ fn do_terms_agree(file: &[u8], at: usize, count: usize, d: Linear) -> bool
     true
 }
 
-// The constraint at an offset has the content of d.
-pub fn same_content(file: &[u8], at: usize, d: Linear) -> bool
+// The constraint at an offset has the content of d. `first` is its coefficient at d's first variable.
+pub fn same_content(file: &[u8], at: usize, d: Linear, first: i64) -> bool
     requires { ⌜ (at + 80 ≤ length (now file)) × (headAt (now file) at .count ≤ 8) × Summable d ⌝ }
+    requires { ⌜ first ≡ coefficient (ofConstraint (constraintAt (now file) at) .form) (d .x) ⌝ }
     ensures { λ z. ⌜ z ≡ sameContent (ofConstraint (constraintAt (now (file .entry)) at)) (boundedOf d) ⌝ }
 {
     let head = constraint_head(file, at);
     let count = head.count as usize;
-    if !(same_number(head.bound, d.bound) & do_variables_agree(file, at, count, d)) {
+    if !(same_number(head.bound, d.bound) & do_variables_agree(file, at, count, d, first)) {
         return false;
     }
     do_terms_agree(file, at, count, d)

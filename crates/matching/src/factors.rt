@@ -63,9 +63,6 @@ pub fn is_multiple(file: &[u8], at: usize, d: Linear) -> bool
     if same_number(first, 0) & !same_number(coefficient_of(d, d.x), 0) {
         return false;
     }
-    same_content(
-        file,
-        at,
-        multiplied(factor_from(read_off(first, head.bound)), d),
-    )
+    let factor = factor_from(read_off(first, head.bound));
+    same_content(file, at, multiplied(factor, d), first)
 }

@@ -117,8 +117,9 @@ product-is c =
 
 same-content-requires : tie.Need-same-content-requires
 same-content-requires c κs =
-    let s = start (c .before .before .before .before .before) in
-    (s .pre .0, s .pre .1 .few, rw (product-is c) (fits (c .before) .sums))
+    let b = c .before .before .before .before .before in
+    let s = start b in
+    ((s .pre .0, s .pre .1 .few, rw (product-is c) (fits (c .before) .sums)), rw (product-is c) (first-is b))
 
 returns-2 : tie.Need-returns-2
 unfolding isMultiple
