@@ -1,6 +1,6 @@
 -- The test of a match. An operator's constraints have 1 or −1 at their first variable or no terms at all, so the one factor that can
 -- be right is read off the written constraint, and nothing is divided. That it passes where some factor is right, and only there, is
--- proved (proofs/Matches.antt).
+-- proved (proofs/Factors.antt, of a whole line proofs/Matches.antt).
 use Prim.Native.Nat.{ℕ, suc, _-_}
 use mathlib.Core.Bool.{Bool, cond, not, _&&_}
 use lib.Dec.{ltb, eqb}

@@ -8,6 +8,7 @@ use denote.Ref.{now}
 use Rattle.constraints.specs.declared.layout.LineHead.{LineHead}
 use Rattle.constraints.specs.Layout.{Line, lineOf}
 use Rattle.rules.proofs.LineFaults.{fault-1, fault-2, fault-3, fault-4, fault-5}
+use Rattle.arithmetic.specs.Checkable.{Checkable}
 use Rattle.arithmetic.proofs.Cutting.{cut-clear}
 use Rattle.arithmetic.proofs.Deciding.{passed-clear}
 use Rattle.certificate.proofs.LineFacts.{deep, line-is, line-shape, line-checkable, equation-is, property-is, join-is, arithmetic-is, cut-is}
@@ -35,6 +36,10 @@ kind-5 c =
       c .before .before .if2 .left,
       c .before .before .before .if1 .left,
     )
+
+-- what rules 20 and 22 count on
+its-checkable : (s : tie.Start) → Checkable (now (s .args .cert)) (s .args .f .start) (s .args .at)
+its-checkable s = line-checkable _ _ _ (s .pre .0 .0) _ _ (s .pre .0 .1) (omega (arith, s .pre .1 .0 .1 .room)) (s .pre .1 .0 .0)
 
 equation-passes-requires : tie.Need-equation-passes-requires
 equation-passes-requires c κs = search needs
@@ -91,11 +96,10 @@ arithmetic-ok-requires : tie.Need-arithmetic-ok-requires
 arithmetic-ok-requires c κs =
     let four = c .before .before in
     let s = four .before .before .before .before .before .before in
-    let checkable = line-checkable _ _ _ (s .pre .0 .0) _ _ (s .pre .0 .1) (omega (arith, s .pre .1 .0 .1 .room)) (s .pre .1 .0 .0) in
     let shape = line-shape _ _ _ (s .pre .0 .0) _ _ (s .pre .0 .1) (s .pre .1 .0 .0) in
     let counted = ap (λ (h : LineHead). h .count) (s .pre .0 .2) in
     let kind = sym (ap (λ (h : LineHead). h .kind) (s .pre .0 .2)) ∙ four .if4 .taken in
-    ((checkable, counted), ((λ j l. shape .multipliers kind j (omega (arith, counted))), s .pre .1 .1))
+    ((its-checkable s, counted), ((λ j l. shape .multipliers kind j (omega (arith, counted))), s .pre .1 .1))
 
 unless-requires-4 : tie.Need-unless-requires-4
 unless-requires-4 c κs = search needs
@@ -124,8 +128,7 @@ returns-4 c =
 cut-ok-requires : tie.Need-cut-ok-requires
 cut-ok-requires c κs =
     let s = c .before .before .before .before .before .before .before in
-    let checkable = line-checkable _ _ _ (s .pre .0 .0) _ _ (s .pre .0 .1) (omega (arith, s .pre .1 .0 .1 .room)) (s .pre .1 .0 .0) in
-    ((checkable, s .pre .0 .2), s .pre .1 .1)
+    ((its-checkable s, s .pre .0 .2), s .pre .1 .1)
 
 unless-requires-5 : tie.Need-unless-requires-5
 unless-requires-5 c κs = search needs
