@@ -64,15 +64,18 @@ fn do_agree(file: &[u8], at: usize, count: usize, d: Linear, x: u32) -> bool
     same_number(coefficient_at(file, at, count, x), coefficient_of(d, x))
 }
 
-// They agree at each variable of d. `first` is the file's coefficient at the first of them, which the caller has summed.
+// They agree at each variable of d. `first` is the file's coefficient at the first of them, which the caller has summed; the third is
+// one of the others but where two streams are added or subtracted.
 fn do_variables_agree(file: &[u8], at: usize, count: usize, d: Linear, first: i64) -> bool
     requires { ⌜ (at + 80 ≤ length (now file)) × (count ≤ 8) × Summable d ⌝ }
     requires { ⌜ first ≡ coefficient (written (constraintAt (now file) at) count) (d .x) ⌝ }
     ensures { λ z. ⌜ z ≡ agreeAt (written (constraintAt (now (file .entry)) at) count) (boundedOf d .form) (boundedOf d .form) ⌝ }
 {
-    do_agree(file, at, count, d, d.z)
-        & do_agree(file, at, count, d, d.y)
-        & same_number(first, coefficient_of(d, d.x))
+    let others = do_agree(file, at, count, d, d.y) & same_number(first, coefficient_of(d, d.x));
+    if (d.z == d.x) | (d.z == d.y) {
+        return others;
+    }
+    do_agree(file, at, count, d, d.z) & others
 }
 
 // They agree at x, where they do at each variable of d. Most terms are on one of those, and need no sum.
