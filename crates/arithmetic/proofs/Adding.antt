@@ -3,7 +3,7 @@
 use mathlib.Core.Path.{_≡_, refl, sym, _∙_, ap}
 use mathlib.Core.List.{List, [], _∷_, _++_}
 use mathlib.Core.Bool.{Bool, true, false, cond}
-use Prim.Native.Nat.{ℕ, zero, suc, _+_, _*_, _≤_, _<_}
+use Prim.Native.Nat.{ℕ, suc, _+_, _*_, _≤_, _<_}
 use native.Mathlib.Nat.{le-refl, mul-le-mul}
 use native.Mathlib.Numerals.{add-one}
 use native.Mathlib.Omega.{arith}
@@ -13,7 +13,7 @@ use lib.IntN.{ℤ, pos, negℤ, natAbs, _+ℤ_, _-ℤ_, _*ℤ_}
 use lib.ListN.{length, getD, set, replicate, length-set, length-replicate, getD-replicate}
 use lib.Seq.{getD-set-same, getD-set-other}
 use Rattle.integers.proofs.Ring.{+ℤ-idl, +ℤ-idr, +ℤ-comm, +ℤ-assoc, *ℤ-assoc, *ℤ-idr, *ℤ-negℤ}
-use Rattle.integers.proofs.Abs.{abs-*ℤ, abs-negℤ, bound-add, bound-sub}
+use Rattle.integers.proofs.Abs.{abs-negℤ, bound-add, bound-sub}
 use Rattle.constraints.specs.Layout.{Constraint, Line, usedIn}
 use Rattle.constraints.specs.Linear.{Monomial, Form, Bounded, variable, coefficient, scaled, negated, written, boundedOf}
 use Rattle.constraints.proofs.Weights.{weight, coefficient-within, weight-scaled, weight-written}

@@ -1,11 +1,11 @@
 -- The clauses of an equation whose constant is within ±1,000,000,000 have only small numbers.
 -- Assumes nothing.
-use mathlib.Core.Path.{_≡_, refl, sym, subst}
+use mathlib.Core.Path.{_≡_, refl, subst}
 use mathlib.Core.List.{List, [], _∷_}
 use mathlib.Core.Bool.{Bool, true, false, cond}
 use Prim.Native.Nat.{ℕ, _≤_}
 use native.Mathlib.Omega.{arith}
-use borrow.Author.Tests.{eqb-true, eq-eqb}
+use borrow.Author.Tests.{eq-eqb}
 use lib.Dec.{eqb}
 use lib.IntN.{ℤ, pos, negℤ, natAbs, _+ℤ_}
 use Rattle.integers.proofs.Abs.{abs-negℤ}
@@ -19,7 +19,6 @@ use Rattle.rules.specs.declared.pattern.Named.the-variants.{Is}
 use Rattle.rules.specs.declared.pattern.Position.{Position}
 use Rattle.rules.specs.Clauses.{linear, clauses, numbered}
 use Rattle.rules.proofs.ClauseLiterals.{Each, Made, Known, each-literal}
-use Rattle.rules.proofs.Leading.{lead}
 use Rattle.clauses.specs.Operators.{Has}
 use Rattle.clauses.specs.Limits.{Small, SmallPattern}
 use Rattle.clauses.proofs.Numbering.{number-has}

@@ -1,11 +1,9 @@
 -- An operator's clauses have only variables of the stream and of its operands.
 -- Assumes nothing.
-use mathlib.Core.List.{List}
 use Prim.Native.Nat.{ℕ, _<_}
-use lib.IntN.{ℤ}
 use Rattle.node.specs.declared.equation.StreamType.{StreamType}
 use Rattle.node.specs.declared.equation.Equation.{Equation}
-use Rattle.node.specs.Reads.{All, Read, reads}
+use Rattle.node.specs.Reads.{All, reads}
 use Rattle.constraints.proofs.Totals.{Below}
 use Rattle.rules.specs.declared.pattern.Clause.{Clause}
 use Rattle.rules.specs.declared.pattern.Pattern.{Pattern}

@@ -1,16 +1,16 @@
 -- The factor that is read off is right where any is: the test of a multiple is "some whole number of at least 1".
 -- Assumes nothing.
-use mathlib.Core.Path.{_≡_, refl, sym, _∙_, ap}
+use mathlib.Core.Path.{_≡_, sym, _∙_, ap}
 use mathlib.Core.Logic.{_⊎_, inl, inr, _↔_}
 use mathlib.Core.Bool.{true}
-use Prim.Native.Nat.{ℕ, zero, suc, _*_, _≤_}
+use Prim.Native.Nat.{ℕ, zero, suc, _≤_}
 use native.Mathlib.Nat.{not-suc-le-zero}
 use native.Mathlib.Omega.{arith}
 use borrow.Author.Tests.{lt-leb}
 use lib.IntN.{ℤ, pos, negsuc, negℤ, natAbs, _*ℤ_}
 use Rattle.integers.proofs.Abs.{abs-*ℤ}
 use Rattle.integers.proofs.Ring.{*ℤ-zero}
-use Rattle.constraints.specs.Linear.{Bounded, coefficient, sameContent}
+use Rattle.constraints.specs.Linear.{Bounded, coefficient}
 use Rattle.constraints.proofs.Totals.{coefficient-scaled}
 use Rattle.rules.specs.declared.pattern.Linear.{Linear}
 use Rattle.rules.specs.Clauses.{boundedOf}

@@ -3,7 +3,7 @@
 -- Assumes nothing.
 use mathlib.Core.Path.{_≡_, refl, sym, _∙_}
 use mathlib.Core.Bool.{true, false}
-use Prim.Native.Nat.{ℕ, zero, suc, _+_, _*_, _/_, _%_, _<_}
+use Prim.Native.Nat.{ℕ, zero, suc, _/_, _%_, _<_}
 use native.Mathlib.Omega.{arith}
 use borrow.Author.Tests.{eq-eqb, ne-eqb, lt-leb, not-true}
 use lib.IntN.{ℤ, pos}
@@ -16,7 +16,7 @@ use Rattle.rules.specs.declared.pattern.Linear.{Linear}
 use Rattle.rules.specs.declared.pattern.Pattern.{Pattern}
 use Rattle.rules.specs.declared.pattern.Pattern.the-variants.{Yes, No, Most}
 use Rattle.rules.specs.Clauses.{boundedOf}
-use Rattle.literals.specs.Literals.{positive, negative, atomOf, isNegated, isConstraint, constraintNumber}
+use Rattle.literals.specs.Literals.{positive, negative, atomOf, constraintNumber}
 use Rattle.rules.specs.Matching.{multiplied, MultipleOf, SaysMost, Matches}
 use Rattle.rules.specs.Satisfaction.{Valuation, isBounded, atomTrue, literalTrue, patternTrue}
 use Rattle.rules.proofs.Contents.{same-content-means}

@@ -6,13 +6,13 @@ use mathlib.Core.List.{List, [], _∷_}
 use mathlib.Core.Bool.{Bool, true, false, not, _&&_, _||_, true≢false}
 use Prim.Native.Nat.{ℕ, zero, suc, _-_, _<_}
 use native.Mathlib.Omega.{arith}
-use borrow.Author.Tests.{eqb-true, eq-eqb, ltb-true, lt-ltb, leb-true, leb-false, le-leb, lt-leb, not-true}
+use borrow.Author.Tests.{eqb-true, eq-eqb, ltb-true, lt-ltb, leb-false, lt-leb, not-true}
 use lib.Dec.{leb, ltb, eqb}
-use Rattle.answers.proofs.Tests.{both-true, either-true}
+use Rattle.answers.proofs.Tests.{both-true}
 use Rattle.node.specs.Layout.{streamsOf}
 use Rattle.node.specs.Equations.{typeAt, equationAt}
 use Rattle.node.specs.Outcome.{NodeRules}
-use Rattle.node.specs.Reads.{All, ReadOk, reads, WellFormedFile}
+use Rattle.node.specs.Reads.{All, ReadOk, reads}
 use Rattle.node.proofs.WellFormedness.{well-formed}
 use Rattle.streams.proofs.Reading.{all-map}
 use Rattle.constraints.specs.Layout.{Constraint, Line, trailerOf, constraintOf, lineOf}
@@ -22,14 +22,13 @@ use Rattle.rules.specs.declared.pattern.Clause.{Clause}
 use Rattle.rules.specs.declared.pattern.Linear.{Linear}
 use Rattle.rules.specs.declared.pattern.Pattern.{Pattern}
 use Rattle.rules.specs.declared.pattern.Pattern.the-variants.{Yes, No, Most}
-use Rattle.rules.specs.declared.pattern.Position.{Position}
 use Rattle.rules.specs.Clauses.{clauses, numbered}
-use Rattle.rules.specs.Equations.{LiteralsEqual, EqualNamed, EquationLine}
+use Rattle.rules.specs.Equations.{LiteralsEqual, EqualNamed}
 use Rattle.rules.specs.Factors.{isMultiple, saysMost, matchesOf}
 use Rattle.rules.specs.Lines.{positionOf, clauseIs, literalsAre, equationIn}
 use Rattle.rules.specs.Matching.{SaysMost, Matches}
 use Rattle.rules.specs.Verdict.{windowOf, EquationKept, equationPasses}
-use Rattle.rules.proofs.ClauseLiterals.{Each, Known, each-literal}
+use Rattle.rules.proofs.ClauseLiterals.{Each, each-literal}
 use Rattle.rules.proofs.Factors.{multiple-exactly, multiple-means}
 use Rattle.rules.proofs.Leading.{Leading, LeadingLiteral, made-leading}
 

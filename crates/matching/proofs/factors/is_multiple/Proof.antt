@@ -10,7 +10,7 @@ use mir.Facts.{toZ-ofZ}
 use borrow.Author.Needs.{needs}
 use Rattle.integers.proofs.Reading.{rd}
 use Rattle.constraints.specs.declared.layout.ConstraintHead.{ConstraintHead}
-use Rattle.constraints.specs.Layout.{Constraint, constraintAt, usedIn}
+use Rattle.constraints.specs.Layout.{Constraint, constraintAt}
 use Rattle.constraints.specs.Linear.{coefficient, written, sameZ, sameContent, boundedOf as ofConstraint}
 use Rattle.constraints.proofs.Blocks.{used-is}
 use Rattle.rules.specs.declared.pattern.Linear.{Linear}
