@@ -5,7 +5,7 @@ use mathlib.Core.Path.{_≡_, refl, subst}
 use mathlib.Core.Logic.{⊎-elim}
 use mathlib.Core.Bool.{Bool, true, false}
 use Prim.Native.Nat.{ℕ, zero, suc, _<_}
-use native.Mathlib.Nat.{not-suc-le-zero, eq-or-lt-of-le, le-of-suc-le-suc}
+use native.Mathlib.Nat.{not-suc-le-zero, eq-or-lt-of-le, le-of-suc-le-suc, lt-suc-self}
 use native.Mathlib.Omega.{arith}
 use borrow.Author.Count.{below-more}
 use Rattle.answers.specs.declared.Found.{Found}
@@ -46,3 +46,9 @@ module _ (ok : ℕ → Bool) where
 
   pub first : (n i : ℕ) → lowest ok n ≡ At i → Lowest ok n i
   first n i e = subst (Means ok n) e (means n)
+
+-- tests that agree below n have the same lowest failure
+pub lowest-same : (f g : ℕ → Bool) (n : ℕ) → ((k : ℕ) → k < n → f k ≡ g k) → lowest f n ≡ lowest g n
+unfolding lowest
+lowest-same f g zero h = refl
+lowest-same f g (suc n) h = rw (lowest-same f g n (λ k l. h k (omega arith)), h n (lt-suc-self n))

@@ -20,10 +20,11 @@ use Rattle.node.specs.declared.reading.RecordRule.the-variants.{Shape, Operands
 use Rattle.node.specs.Inputs.{inputCount}
 use Rattle.node.specs.Layout as node-layout
 use Rattle.node.specs.Layout.{streamsOf, propertyOf}
+use Rattle.node.specs.Reads.{orderOf}
 use Rattle.node.specs.Rules as node-rules
 use Rattle.node.specs.Rules.{lengthOk}
-use Rattle.node.specs.Verdict.{passesOf, recordsVerdict, verdictOf as nodeVerdict}
-use Rattle.streams.specs.Instant.{inputFits, valueInside}
+use Rattle.node.specs.Verdict.{passesOf, neverPlaced, typesVerdict, recordsVerdict, verdictOf as nodeVerdict}
+use Rattle.streams.specs.Instant.{inputFits, valueInside, firstAlong}
 use Rattle.session.specs.declared.Session.{Session}
 use Rattle.session.specs.Instants.{workedOut, answerOf}
 use Rattle.session.specs.Records.{held, holdsNode}
@@ -62,7 +63,7 @@ module _ {A : Type 0} where
   tested-all Nothing number place rest l n = n
 
 node-numbered : (file : List ℕ) → Numbered (nodeVerdict file)
-unfolding nodeVerdict recordsVerdict
+unfolding nodeVerdict recordsVerdict typesVerdict
 node-numbered file =
     let n = streamsOf file in
     tested (lengthOk (length file)) 1 File _ (omega arith)
@@ -71,9 +72,10 @@ node-numbered file =
     (tested (node-rules.distanceOk (node-layout.trailerOf file) (length file)) 4 File _ (omega arith)
     (tested-all (lowest (passesOf file n Shape) n) 5 AtRecord _ (omega arith)
     (tested-all (lowest (passesOf file n Operands) n) 6 AtRecord _ (omega arith)
+    (tested-all (neverPlaced (orderOf file) n) 23 AtRecord _ (omega arith)
     (tested-all (lowest (passesOf file n Types) n) 7 AtRecord _ (omega arith)
     (tested (node-rules.propertyOk (node-layout.typeByteOf file (propertyOf file))) 8 (AtRecord (propertyOf file)) _ (omega arith)
-    (none _))))))))
+    (none _)))))))))
 
 lines : (found : Found) (number : ℕ → ℕ) (rest : Answer CertificateValues) → ((i : ℕ) → found ≡ At i → 0 < number i) → Numbered rest → Numbered (checkLines found number rest)
 lines (At i) number rest l n = above CertificateValues (number i) (AtLine i) (l i refl)
@@ -121,7 +123,7 @@ instant-numbered s inputs room =
     (tested (eqb (length inputs) (inputCount (held s))) 31 File _ (omega arith)
     (tested (eqb room n) 32 File _ (omega arith)
     (tested-all (lowest (inputFits (held s) inputs) n) 33 AtRecord _ (omega arith)
-    (tested-all (lowest (valueInside (workedOut s inputs)) n) 34 AtRecord _ (omega arith)
+    (tested-all (firstAlong (orderOf (held s)) (valueInside (workedOut s inputs))) 34 AtRecord _ (omega arith)
     (none _)))))
 
 zero-accepts : {A : Type 0} (values : A → Told) (a : Answer A) → Numbered a → toldOf values a .number ≡ 0 → isAccepted a ≡ true

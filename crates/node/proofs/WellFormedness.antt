@@ -1,12 +1,11 @@
--- Every equation of an accepted file is well formed: its operands are in place and of the right type, and its constant is in
--- range. The argument goes by the operator's row and not by the operator.
+-- Every equation of an accepted file is well formed: its operands are streams of the right type, and its constant is in range; and the
+-- worked-out order has each once, after all that it needs now. The argument goes by the operator's row and not by the operator.
 -- Assumes nothing.
 use mathlib.Core.Path.{_≡_, ap}
-use mathlib.Core.Bool.{true, _&&_, false≢true}
-use mathlib.Core.List.{List, [], _∷_, _++_}
+use mathlib.Core.Bool.{true, _&&_}
+use mathlib.Core.List.{List}
 use Prim.Native.Nat.{ℕ, _<_}
 use borrow.Author.Tests.{ltb-true, eqb-true}
-use lib.Dec.{ltb}
 use Rattle.answers.specs.Answer.{accepted, NodeValues}
 use Rattle.answers.proofs.Tests.{both-true}
 use Rattle.node.specs.declared.layout.Record.{Record}
@@ -15,20 +14,17 @@ use Rattle.node.specs.declared.table.Operand.the-variants.{Unused, Now, 
 use Rattle.node.specs.declared.table.Row.{Row}
 use Rattle.node.specs.declared.table.Wanted.{Wanted}
 use Rattle.node.specs.declared.table.Wanted.the-variants.{ABool, AnInt, Own}
-use Rattle.node.specs.Equations.{typeOf, typeAmong, typeAt, decoded, encoded}
+use Rattle.node.specs.Equations.{typeOf, typeAmong, typeAt, equationAt, decoded, encoded}
 use Rattle.node.specs.Layout.{streamsOf, recordOf, typeByteOf}
 use Rattle.node.specs.Outcome.{NodeRules}
 use Rattle.node.specs.Reads.{reading, rowReads, rowFor, reads, wantedType, All, ReadOk, InRange, WellFormedFile}
-use Rattle.node.specs.Rules.{placed, operandsOk, hasType, typed, typesOk, propertyOk}
+use Rattle.node.specs.Rules.{isStream, operandsOk, hasType, typed, typesOk, propertyOk}
 use Rattle.node.specs.Table.{rowOf}
 use Rattle.node.specs.Verdict.{verdictOf}
 use Rattle.node.proofs.Encoding.{shape, by-record}
 use Rattle.node.proofs.FileRules.{sizes}
+use Rattle.node.proofs.Needs.{by-operand, ordered}
 use Rattle.node.proofs.Outcomes.{accepted-keeps}
-
-pub all-append : {A : Type 0} (P : A → Type 0) (xs ys : List A) → All P xs → All P ys → All P (xs ++ ys)
-all-append P [] ys ps qs = qs
-all-append P (x ∷ xs) ys ps qs = (ps .0, all-append P xs ys (ps .1) qs)
 
 -- a type byte that is the wanted one stands for the wanted type
 typed-is : (wanted : Wanted) (own ty : ℕ) → hasType wanted own ty ≡ true → typeOf ty ≡ wantedType (typeOf own) wanted
@@ -37,13 +33,10 @@ typed-is AnInt own ty e = rw (eqb-true ty 1 e)
 typed-is Own own ty e = ap typeOf (eqb-true ty own e)
 
 module _ (n i : ℕ) (types : ℕ → ℕ) where
-  operand-ok : (operand : Operand) (x : ℕ) → placed operand n i x ≡ true → typed operand (types i) (types x) ≡ true → All (ReadOk n (λ j. typeOf (types j)) i) (reading operand x)
+  operand-ok : (operand : Operand) (x : ℕ) → isStream operand n x ≡ true → typed operand (types i) (types x) ≡ true → All (ReadOk n (λ j. typeOf (types j)) i) (reading operand x)
   operand-ok Unused x p h = tt
-  operand-ok (Now wanted) x p h =
-      let both = both-true (ltb x n) (ltb x i) p in
-      (record { below = ltb-true _ _ (both .0); lower = λ e. ltb-true _ _ (both .1); typed = typed-is wanted (types i) (types x) h }, tt)
-  operand-ok (Before wanted) x p h =
-      (record { below = ltb-true _ _ p; lower = λ e. absurd (false≢true e); typed = typed-is wanted (types i) (types x) h }, tt)
+  operand-ok (Now wanted) x p h = (record { below = ltb-true _ _ p; typed = typed-is wanted (types i) (types x) h }, tt)
+  operand-ok (Before wanted) x p h = (record { below = ltb-true _ _ p; typed = typed-is wanted (types i) (types x) h }, tt)
 
 module _ (s : List ℕ) (rules : NodeRules s) (i : ℕ) (l : i < streamsOf s) where
   abbrev n : ℕ
@@ -72,15 +65,13 @@ module _ (s : List ℕ) (rules : NodeRules s) (i : ℕ) (l : i < streamsOf s) wh
   operands-ok : All (ReadOk n (λ j. typeOf (typeByteOf s j)) i) (rowReads row r)
   unfolding operandsOk
   operands-ok =
-      let a = placed (row .a) n i (r .a) in
-      let b = placed (row .b) n i (r .b) in
-      let c = placed (row .c) n i (r .c) in
+      let a = isStream (row .a) n (r .a) in
+      let b = isStream (row .b) n (r .b) in
+      let c = isStream (row .c) n (r .c) in
       let two = both-true (a && b) c (rules .operands i l) in
       let one = both-true a b (two .0) in
       let ok = operand-ok n i (typeByteOf s) in
-      all-append _ (reading (row .a) (r .a)) _ (ok (row .a) (r .a) (one .0) (types .1))
-      (all-append _ (reading (row .b) (r .b)) _ (ok (row .b) (r .b) (one .1) (types .2))
-      (ok (row .c) (r .c) (two .1) (types .3)))
+      by-operand _ row r (ok (row .a) (r .a) (one .0) (types .1)) (ok (row .b) (r .b) (one .1) (types .2)) (ok (row .c) (r .c) (two .1) (types .3))
 
   -- what the row says of the record, it says of the equation
   of-equation : (P : Record → Type 0) → P r → P (encoded (typeOf (r .ty)) (decoded r))
@@ -91,6 +82,7 @@ unfolding typeAmong propertyOk reads rowFor
 well-formed s rules =
     record {
       operands = λ i l. of-equation s rules i l (λ x. All (ReadOk (streamsOf s) (typeAt s) i) (rowReads (rowOf (x .op)) x)) (operands-ok s rules i l);
+      ordered = ordered (equationAt s) (streamsOf s) (rules .placed);
       own = λ i l. of-equation s rules i l (λ x. typeAt s i ≡ wantedType (typeAt s i) (rowOf (x .op) .own)) (typed-is (row s rules i l .own) (typeByteOf s i) (typeByteOf s i) (types s rules i l .0));
       constants = λ i l. of-equation s rules i l (λ x. InRange (rowOf (x .op) .k) (typeAt s i) (x .k)) (shape (recordOf s i) (rules .shapes i l) .constant);
       property-below = sizes s (rules .file) .property;

@@ -17,7 +17,9 @@ use Rattle.node.specs.declared.layout.Record.{Record}
 use Rattle.node.specs.declared.reading.RecordRule.{RecordRule}
 use Rattle.node.specs.declared.reading.RecordRule.the-variants.{Shape, Operands, Types}
 use Rattle.node.specs.Layout.{trailerAt, trailerOf, recordAt, streamsOf, propertyOf, sizeOf, recordsOf, emptyRecord, recordAmong, recordOf, typeByteOf}
+use Rattle.node.specs.Order.{isAmong}
 use Rattle.node.specs.Outcome.{FileRules, NodeRules, AllKeep}
+use Rattle.node.specs.Reads.{workedOutOrder, orderOf}
 use Rattle.node.specs.Rules.{lengthOk, fixedOk, countsOk, distanceOk, shapeOk, operandsOk, typesOk, propertyOk}
 use Rattle.node.specs.Verdict.{passesOf, verdictOf}
 use Rattle.node.specs.Equations.{typeOf, typeAmong, typeAt, decoded, equationAt}
@@ -67,11 +69,14 @@ module _ (s : List ℕ) (rules : NodeRules s) (k : ℕ) (left : k + sizeOf (stre
 
   passes-is : (rule : RecordRule) (i : ℕ) → passesOf rest (streamsOf rest) rule i ≡ passesOf s (streamsOf s) rule i
   passes-is Shape i = ap shapeOk (record-is i)
-  passes-is Operands i = ap₂ (λ (n : ℕ) (r : Record). operandsOk n i r) streams-is (record-is i)
+  passes-is Operands i = ap₂ operandsOk streams-is (record-is i)
   passes-is Types i = ap₂ typesOk (fun-ext (λ j. ap (λ (r : Record). r .ty) (record-is j))) (record-is i)
 
   all-keep : (rule : RecordRule) → AllKeep s rule → AllKeep rest rule
   all-keep rule keep i l = passes-is rule i ∙ keep i (rw streams-is at l)
+
+  order-is : orderOf rest ≡ orderOf s
+  order-is = ap₂ workedOutOrder (fun-ext (λ i. ap decoded (record-is i))) streams-is
 
   file-rules : FileRules rest
   unfolding lengthOk distanceOk
@@ -91,6 +96,7 @@ module _ (s : List ℕ) (rules : NodeRules s) (k : ℕ) (left : k + sizeOf (stre
         file = file-rules;
         shapes = all-keep Shape (rules .shapes);
         operands = all-keep Operands (rules .operands);
+        placed = λ i l. ap (λ (order : List ℕ). isAmong order i) order-is ∙ rules .placed i (rw streams-is at l);
         types = all-keep Types (rules .types);
         property =
             ap (λ (t : Trailer). propertyOk (typeByteOf rest (t .property))) trailer-is

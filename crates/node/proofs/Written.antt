@@ -15,10 +15,12 @@ use Rattle.answers.specs.Answer.{Answer, accepted, refused, NodeValues}
 use Rattle.fields.proofs.Written.{u16-back, u32-back, i32-back}
 use Rattle.node.specs.declared.layout.Trailer.{Trailer}
 use Rattle.node.specs.declared.layout.Record.{Record}
-use Rattle.node.specs.Equations.{typeOf}
+use Rattle.node.specs.Equations.{typeOf, decoded}
 use Rattle.node.specs.Layout.{trailerAt, trailerOf, recordAt, streamsOf, sizeOf, recordsOf, emptyRecord, recordAmong, recordOf, typeByteOf}
 use Rattle.node.specs.Note.{noteOf, noteLength}
+use Rattle.node.specs.Order.{isAmong}
 use Rattle.node.specs.Outcome.{NodeRules}
+use Rattle.node.specs.Reads.{workedOutOrder}
 use Rattle.node.specs.Rules.{lengthOk, fixedOk, countsOk, distanceOk, shapeOk, operandsOk, typesOk, propertyOk}
 use Rattle.node.specs.Table.{rowOf}
 use Rattle.node.specs.Verdict.{verdictOf}
@@ -145,7 +147,9 @@ module _ (records : List Record) (property : ℕ) (keep : NodeRecords records pr
                   ∙ rw (written-length records property, eq-eqb size size refl, le-leb size size (omega arith));
             };
         shapes = λ i l. ap shapeOk (record-is i) ∙ keep .shapes i (rw streams-is at l);
-        operands = λ i l. ap₂ (λ (n : ℕ) (r : Record). operandsOk n i r) streams-is (record-is i) ∙ keep .operands i (rw streams-is at l);
+        operands = λ i l. ap₂ operandsOk streams-is (record-is i) ∙ keep .operands i (rw streams-is at l);
+        placed = λ i l.
+            ap (λ (order : List ℕ). isAmong order i) (ap₂ workedOutOrder (fun-ext (λ j. ap decoded (record-is j))) streams-is) ∙ keep .placed i (rw streams-is at l);
         types = λ i l.
             ap₂ typesOk (fun-ext (λ j. ap (λ (r : Record). r .ty) (record-is j))) (record-is i) ∙ keep .types i (rw streams-is at l);
         property =

@@ -1,6 +1,6 @@
--- The conditions 1 to 8 of "Where each refusal is met", each as the test that a file passes.
+-- The conditions 1 to 8 of "Where each refusal is met", each as the test that a file passes. Condition 23 is in Verdict.antt.
 use Prim.Native.Nat.{ℕ}
-use mathlib.Core.Bool.{Bool, true, _&&_, _||_}
+use mathlib.Core.Bool.{Bool, true, not, _&&_, _||_}
 use lib.Dec.{leb, ltb, eqb}
 use lib.IntN.{ℤ, pos, negℤ}
 use lib.Signed.{leZ}
@@ -68,18 +68,14 @@ shapeOk r =
     && constantOk (rowOf (r .op) .k) (typeOf (r .ty)) (r .k)
     && unusedOk (rowOf (r .op)) r
 
--- "An operand needed now has a lower number than its record"
-abbrev pub placed : Operand → (n i x : ℕ) → Bool
-placed Unused n i x = true
-placed (Now wanted) n i x = ltb x n && ltb x i
-placed (Before wanted) n i x = ltb x n
+-- an operand that is read is a stream
+abbrev pub isStream : Operand → (n x : ℕ) → Bool
+isStream operand n x = not (readsIt operand) || ltb x n
 
--- 6: operand not below n, or needed now and not lower
-unfoldable pub operandsOk : (n i : ℕ) → Record → Bool
-operandsOk n i r =
-    placed (rowOf (r .op) .a) n i (r .a)
-    && placed (rowOf (r .op) .b) n i (r .b)
-    && placed (rowOf (r .op) .c) n i (r .c)
+-- 6: operand not below n
+unfoldable pub operandsOk : (n : ℕ) → Record → Bool
+operandsOk n r =
+    isStream (rowOf (r .op) .a) n (r .a) && isStream (rowOf (r .op) .b) n (r .b) && isStream (rowOf (r .op) .c) n (r .c)
 
 -- a type byte is the one that is wanted, where `own` is the record's: 0 bool, 1 int
 abbrev pub hasType : Wanted → (own ty : ℕ) → Bool

@@ -7,7 +7,10 @@ use lib.ListN.{length, getD}
 use Rattle.fields.specs.Written.{u16Bytes, u32Bytes, i32Bytes}
 use Rattle.node.specs.declared.layout.Trailer.{Trailer}
 use Rattle.node.specs.declared.layout.Record.{Record}
+use Rattle.node.specs.Equations.{decoded}
 use Rattle.node.specs.Layout.{sizeOf, emptyRecord}
+use Rattle.node.specs.Order.{isAmong}
+use Rattle.node.specs.Reads.{workedOutOrder}
 use Rattle.node.specs.Rules.{shapeOk, operandsOk, typesOk, propertyOk}
 
 -- "operator byte, type byte (0 bool, 1 int), u16 operands a, b, c, i32 constant K, four zero bytes"
@@ -33,12 +36,13 @@ nodeFile records property =
 abbrev pub recordIn : List Record → ℕ → Record
 recordIn records i = getD records i emptyRecord
 
--- records of which a written file is accepted: 3 and 5 to 8, said of the list
+-- records of which a written file is accepted: 3, 5 to 8 and 23, said of the list
 pub record NodeRecords (records : List Record) (property : ℕ) : Type 0 where
   pub some : 1 ≤ length records
   pub few : length records ≤ 64
   pub property-below : property < length records
   pub shapes : (i : ℕ) → i < length records → shapeOk (recordIn records i) ≡ true
-  pub operands : (i : ℕ) → i < length records → operandsOk (length records) i (recordIn records i) ≡ true
+  pub operands : (i : ℕ) → i < length records → operandsOk (length records) (recordIn records i) ≡ true
+  pub placed : (i : ℕ) → i < length records → isAmong (workedOutOrder (λ j. decoded (recordIn records j)) (length records)) i ≡ true
   pub types : (i : ℕ) → i < length records → typesOk (λ j. recordIn records j .ty) (recordIn records i) ≡ true
   pub property-bool : propertyOk (recordIn records property .ty) ≡ true

@@ -10,8 +10,10 @@ pub const COUNTS: usize = 3;
 pub const DISTANCE: usize = 4;
 // "operator over 13, type byte over 1, K against its rule, unused field not 0"
 pub const SHAPE: usize = 5;
-// "operand not below n, or needed now and not lower"
+// "not below n"
 pub const OPERANDS: usize = 6;
+// "no such order"
+pub const ORDER: usize = 23;
 // "type byte or operand type not the operator's"
 pub const TYPES: usize = 7;
 // "property not bool"

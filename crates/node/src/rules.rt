@@ -12,7 +12,7 @@ use crate::table::row_of;
 ghost use mathlib.Core.Path.{_≡_};
 ghost use Rattle.node.specs.Equations.{typeOf};
 ghost use Rattle.node.specs.Layout.{typeByteAmong};
-ghost use Rattle.node.specs.Rules.{lengthOk, fixedOk, countsOk, distanceOk, within, constantOk, unusedOk, shapeOk, placed, operandsOk, hasType, typed, typesOk, propertyOk};
+ghost use Rattle.node.specs.Rules.{lengthOk, fixedOk, countsOk, distanceOk, within, constantOk, unusedOk, shapeOk, isStream, operandsOk, hasType, typed, typesOk, propertyOk};
 
 // Rule 1.
 pub fn length_ok(size: usize) -> bool
@@ -86,28 +86,22 @@ pub fn shape_ok(r: Record) -> bool
     (r.op < OPERATORS) & (r.ty <= 1) & constant_ok(limit, r.ty, r.k) & unused_ok(row, r)
 }
 
-// An operand that is read is below n and, where it is needed now, lower than its record.
-fn is_placed(operand: Operand, n: usize, i: usize, x: usize) -> bool
-    ensures { λ r. ⌜ r ≡ placed operand n i x ⌝ }
+// An operand that is read is below n.
+fn is_stream(operand: Operand, n: usize, x: usize) -> bool
+    ensures { λ r. ⌜ r ≡ isStream operand n x ⌝ }
 {
-    match operand {
-        Operand::Unused => true,
-        Operand::Now(_) => (x < n) & (x < i),
-        Operand::Before(_) => x < n,
-    }
+    !reads(operand) | (x < n)
 }
 
 // Rule 6.
-pub fn operands_ok(n: usize, i: usize, r: Record) -> bool
-    ensures { λ z. ⌜ z ≡ operandsOk n i r ⌝ }
+pub fn operands_ok(n: usize, r: Record) -> bool
+    ensures { λ z. ⌜ z ≡ operandsOk n r ⌝ }
 {
     let row = row_of(r.op);
     let a = row.a;
     let b = row.b;
     let c = row.c;
-    is_placed(a, n, i, r.a as usize)
-        & is_placed(b, n, i, r.b as usize)
-        & is_placed(c, n, i, r.c as usize)
+    is_stream(a, n, r.a as usize) & is_stream(b, n, r.b as usize) & is_stream(c, n, r.c as usize)
 }
 
 // A type byte is the one that is wanted, where own is the record's.

@@ -14,7 +14,7 @@ use Rattle.node.specs.declared.equation.Equation.the-variants.{Input, Constant,
 use Rattle.node.specs.Equations.{constantOf}
 use Rattle.node.specs.Reads.{All, Read, rowFor, reads}
 use Rattle.node.specs.Table.{rowOf}
-use Rattle.node.proofs.WellFormedness.{all-append}
+use Rattle.node.proofs.Needs.{all-append}
 use Rattle.rules.specs.declared.pattern.Clause.{Clause}
 use Rattle.rules.specs.declared.pattern.Pattern.{Pattern}
 use Rattle.rules.specs.declared.pattern.Pattern.the-variants.{Yes, No, Most}

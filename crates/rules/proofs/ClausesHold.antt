@@ -17,7 +17,7 @@ use Rattle.node.specs.declared.equation.Equation.the-variants.{Input, Constant,
 use Rattle.node.specs.declared.table.Limit.the-variants.{Value}
 use Rattle.node.specs.Reads.{All, rowFor, reads, InRange, ConstantOk}
 use Rattle.node.specs.Table.{rowOf}
-use Rattle.node.proofs.WellFormedness.{all-append}
+use Rattle.node.proofs.Needs.{all-append}
 use Rattle.streams.specs.Meaning.{meaning}
 use Rattle.streams.specs.Values.{number, truth, equals, Values}
 use Rattle.streams.proofs.Numbers.{truth-number, zero-or-one}

@@ -1,6 +1,6 @@
 -- Rule 17's words, and its test: they say the same of every line, where the node keeps its rules.
 -- Assumes nothing.
-use mathlib.Core.Path.{_≡_, refl, sym}
+use mathlib.Core.Path.{_≡_, refl, sym, ap}
 use mathlib.Core.Logic.{_↔_}
 use mathlib.Core.List.{List, [], _∷_}
 use mathlib.Core.Bool.{Bool, true, false, not, _&&_, _||_, true≢false}
@@ -12,7 +12,8 @@ use Rattle.answers.proofs.Tests.{both-true}
 use Rattle.node.specs.Layout.{streamsOf}
 use Rattle.node.specs.Equations.{typeAt, equationAt}
 use Rattle.node.specs.Outcome.{NodeRules}
-use Rattle.node.specs.Reads.{All, ReadOk, reads}
+use Rattle.node.specs.Order.{placeIn}
+use Rattle.node.specs.Reads.{All, reads, orderOf}
 use Rattle.node.proofs.WellFormedness.{well-formed}
 use Rattle.streams.proofs.Reading.{all-map}
 use Rattle.constraints.specs.Layout.{Constraint, Line, trailerOf, constraintOf, lineOf}
@@ -138,9 +139,9 @@ module _ (node cert : List ℕ) (i : ℕ) where
       let p = line .head .p in
       let q = line .head .q in
       each-literal (made-leading (variable q p)) (variable q) (variable (q - 1)) (typeAt node p) (equationAt node p) _ tt
-      (all-map {P = ReadOk (streamsOf node) (typeAt node) p}
-      (λ r ok. record { at = tt; before = tt; needed = λ now e. omega (arith, ok .lower now) })
-      (reads (equationAt node p)) (well-formed node rules .operands p l))
+      (all-map {P = λ r. r .now ≡ true → placeIn (orderOf node) (r .stream) < placeIn (orderOf node) p}
+      (λ r after. record { at = tt; before = tt; needed = λ now e. let same : r .stream ≡ p = omega (arith, e) in omega (arith, after now, ap (placeIn (orderOf node)) same) })
+      (reads (equationAt node p)) (well-formed node rules .ordered .after p l))
 
   pub equation-means : equationPasses node cert i ≡ true → EquationKept node cert i
   unfolding equationIn

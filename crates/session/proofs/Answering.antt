@@ -20,11 +20,12 @@ use Rattle.answers.proofs.Checks.{by-check}
 use Rattle.answers.proofs.Tests.{both-true}
 use Rattle.node.specs.Inputs.{inputCount}
 use Rattle.node.specs.Layout.{streamsOf}
+use Rattle.node.specs.Reads.{orderOf}
 use Rattle.node.specs.Verdict.{verdictOf}
 use Rattle.node.proofs.FileRules.{Sizes}
 use Rattle.node.proofs.Notes.{accepted-sizes}
-use Rattle.streams.specs.Evaluation.{upTo}
-use Rattle.streams.specs.Instant.{inputFits, instantOf, valueInside, filled}
+use Rattle.node.proofs.Outcomes.{is-accepted}
+use Rattle.streams.specs.Instant.{inputFits, instantOf, valueInside, firstAlong, filled}
 use Rattle.streams.specs.Nodes.{nodeOf}
 use Rattle.streams.proofs.Evaluations.{instant-length}
 use Rattle.session.specs.declared.Session.{Session}
@@ -69,17 +70,16 @@ module _ (s : Session) where
     pub held-short : s .length ≤ 1040
     held-short = leb-true (s .length) 1040 (short-and-node .0)
 
+    pub held-accepted : isAccepted (verdictOf (held s)) ≡ true
+    held-accepted = both-true (isAccepted (verdictOf (held s))) _ (short-and-node .1) .0
+
     pub held-sizes : Sizes (held s)
-    held-sizes = go (verdictOf (held s)) refl (both-true (isAccepted (verdictOf (held s))) _ (short-and-node .1) .0)
-      where
-        go : (a : Answer NodeValues) → verdictOf (held s) ≡ a → isAccepted a ≡ true → Sizes (held s)
-        go (accepted node) e t = accepted-sizes (held s) e
-        go (refused number place) e t = absurd (false≢true t)
+    held-sizes = accepted-sizes (held s) (is-accepted (held s) held-accepted)
 
 -- ---- the answer, from what the tests gave
 
 module _ (s : Session) (inputs : List ℤ) (room : ℕ) where
-  pub answer-by : {node count size : Bool} {input value : Found} → holdsNode s ≡ node → eqb (length inputs) (inputCount (held s)) ≡ count → eqb room (streamsOf (held s)) ≡ size → lowest (inputFits (held s) inputs) (streamsOf (held s)) ≡ input → lowest (valueInside (workedOut s inputs)) (streamsOf (held s)) ≡ value → inOrder node count size input value ≡ answerOf s inputs room
+  pub answer-by : {node count size : Bool} {input value : Found} → holdsNode s ≡ node → eqb (length inputs) (inputCount (held s)) ≡ count → eqb room (streamsOf (held s)) ≡ size → lowest (inputFits (held s) inputs) (streamsOf (held s)) ≡ input → firstAlong (orderOf (held s)) (valueInside (workedOut s inputs)) ≡ value → inOrder node count size input value ≡ answerOf s inputs room
   unfolding answerOf
   answer-by a b c d e = sym (λ i. inOrder (a i) (b i) (c i) (d i) (e i))
 
@@ -120,7 +120,7 @@ module _ (s : Session) (inputs slice values : List ℤ) where
 
   worked-length : length (workedOut s inputs) ≡ streamsOf (held s)
   unfolding instantOf
-  worked-length = instant-length (nodeOf (held s)) (upTo (streamsOf (held s))) inputs (unstarted s) (s .last)
+  worked-length = instant-length (nodeOf (held s)) (orderOf (held s)) inputs (unstarted s) (s .last)
 
   writes-all : Answered → Has → over slice values (length slice) ≡ workedOut s inputs
   writes-all e are =

@@ -4,12 +4,11 @@
 use mathlib.Core.Path.{_≡_, refl, _∙_, ap, ap₂}
 use mathlib.Core.Bool.{Bool, true, false}
 use mathlib.Core.List.{List}
-use Prim.Native.Nat.{ℕ, zero, suc, _<_}
-use native.Mathlib.Nat.{lt-suc-self}
+use Prim.Native.Nat.{ℕ, _<_}
 use native.Mathlib.Omega.{arith}
 use borrow.Author.Tests.{eqb-true}
 use lib.Dec.{eqb}
-use lib.ListN.{length}
+use lib.ListN.{length, getD}
 use Rattle.integers.specs.Range.{inside}
 use Rattle.answers.specs.declared.Found.{Found}
 use Rattle.answers.specs.declared.Found.the-variants.{At, Nothing}
@@ -17,13 +16,15 @@ use Rattle.answers.specs.declared.Place.the-variants.{File, Record as AtRecord}
 use Rattle.answers.specs.Answer.{Answer, accepted, NodeValues}
 use Rattle.answers.specs.Checks.{lowest}
 use Rattle.answers.proofs.Checks.{by-check, by-check-all}
-use Rattle.answers.proofs.Lowest.{all}
+use Rattle.answers.proofs.Lowest.{all, lowest-same}
 use Rattle.node.specs.Equations.{typeAt, equationAt}
 use Rattle.node.specs.Inputs.{inputCount}
 use Rattle.node.specs.Layout.{streamsOf}
+use Rattle.node.specs.Reads.{orderOf}
 use Rattle.node.specs.Verdict.{verdictOf}
-use Rattle.streams.specs.Instant.{inputFits, valueInside}
-use Rattle.streams.specs.Nodes.{Node, nodeOf}
+use Rattle.node.proofs.WellFormedness.{accepted-well-formed}
+use Rattle.streams.specs.Instant.{inputFits, valueInside, atPlace, firstOf, firstAlong}
+use Rattle.streams.specs.Nodes.{Node, nodeOf, nodeOrder}
 use Rattle.streams.specs.Solutions.{Streams}
 use Rattle.streams.specs.Typing.{TypedInstant, given}
 use Rattle.streams.specs.Values.{Values, valuesIn}
@@ -38,18 +39,20 @@ use Rattle.session.proofs.Answering.{not-answered}
 use Rattle.session.proofs.Nodes.{input-fits-same}
 use Rattle.session.proofs.Standing.{Standing, held-node, holds-node, worked-out-is}
 
--- tests that agree below n have the same lowest failure
-lowest-same : (f g : ℕ → Bool) (n : ℕ) → ((k : ℕ) → k < n → f k ≡ g k) → lowest f n ≡ lowest g n
-unfolding lowest
-lowest-same f g zero h = refl
-lowest-same f g (suc n) h = rw (lowest-same f g n (λ k l. h k (omega arith)), h n (lt-suc-self n))
-
 -- 34 is met where 31 and 33 pass
 same-order : (count size : Bool) (input value other : Found) → (count ≡ true → input ≡ Nothing → value ≡ other) → inOrder true count size input value ≡ inOrder true count size input other
 same-order false size input value other h = refl
 same-order true false input value other h = refl
 same-order true true (At i) value other h = refl
 same-order true true Nothing value other h = ap (inOrder true true true Nothing) (h refl refl)
+
+-- tests that agree on all streams have the same first failure along the order
+first-same : (file : List ℕ) {node : NodeValues} → verdictOf file ≡ accepted node → (f g : ℕ → Bool) → ((i : ℕ) → i < streamsOf file → f i ≡ g i) → firstAlong (orderOf file) f ≡ firstAlong (orderOf file) g
+unfolding firstOf
+first-same file e f g h =
+    let ordered = accepted-well-formed file e .ordered in
+    ap (atPlace (orderOf file))
+    (lowest-same (λ k. f (getD (orderOf file) k 0)) (λ k. g (getD (orderOf file) k 0)) (length (orderOf file)) (λ k l. h (getD (orderOf file) k 0) (ordered .names k (omega (arith, ordered .size)))))
 
 module _ (file : List ℕ) {node : NodeValues} (e : verdictOf file ≡ accepted node) (c : Call) where
   -- inputs that pass 31 and 33 are typed
@@ -67,7 +70,7 @@ module _ (file : List ℕ) {node : NodeValues} (e : verdictOf file ≡ accepted 
   same-answer values others same =
       same-order (eqb (length (c .inputs)) (inputCount file)) (eqb (length (c .slice)) (streamsOf file)) (lowest (inputTyped file (c .inputs)) (streamsOf file)) _ _
       (λ count input.
-      lowest-same (λ i. inside (values i)) (λ i. inside (others i)) (streamsOf file) (λ i l. ap inside (same (typed count input) i l)))
+      first-same file e (λ i. inside (values i)) (λ i. inside (others i)) (λ i l. ap inside (same (typed count input) i l)))
 
   given-typed : (values : Values) → answerGiven file c values ≡ accepted tt → TypedInstant (nodeOf file) (c .inputs)
   given-typed values =
@@ -82,10 +85,10 @@ module _ (file : List ℕ) {node : NodeValues} (e : verdictOf file ≡ accepted 
     answer-is : answerTo s c ≡ answerGiven file c (valuesIn (workedOut s (c .inputs)))
     unfolding answerOf inputFits
     answer-is =
-        ap₂ (λ (b : Bool) (n : Node). inOrder b (eqb (length (c .inputs)) (n .inputs)) (eqb (length (c .slice)) (n .streams)) (lowest (inputFits (held s) (c .inputs)) (n .streams)) (lowest (valueInside (workedOut s (c .inputs))) (n .streams)))
+        ap₂ (λ (b : Bool) (n : Node). inOrder b (eqb (length (c .inputs)) (n .inputs)) (eqb (length (c .slice)) (n .streams)) (lowest (inputFits (held s) (c .inputs)) (n .streams)) (firstAlong (nodeOrder n) (valueInside (workedOut s (c .inputs)))))
         (holds-node file e done s stands)
         (held-node file e done s stands)
-        ∙ ap (λ (fit : ℕ → Bool). inOrder true (eqb (length (c .inputs)) (inputCount file)) (eqb (length (c .slice)) (streamsOf file)) (lowest fit (streamsOf file)) (lowest (valueInside (workedOut s (c .inputs))) (streamsOf file)))
+        ∙ ap (λ (fit : ℕ → Bool). inOrder true (eqb (length (c .inputs)) (inputCount file)) (eqb (length (c .slice)) (streamsOf file)) (lowest fit (streamsOf file)) (firstAlong (orderOf file) (valueInside (workedOut s (c .inputs)))))
         (ap (λ (f : List ℕ). inputFits f (c .inputs)) (stands .holds) ∙ input-fits-same file e (c .inputs))
 
     -- .. which are those of the solution

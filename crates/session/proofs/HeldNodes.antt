@@ -1,20 +1,22 @@
 -- Which node a file, and a record, holds.
 -- Assumes nothing.
-use mathlib.Core.Path.{_≡_, ap}
-use mathlib.Core.Bool.{Bool, true, false, _||_}
+use mathlib.Core.Path.{_≡_, sym, _∙_, ap}
+use mathlib.Core.Bool.{Bool, true, false, _&&_, _||_, false≢true}
 use mathlib.Core.List.{List}
 use Prim.Native.Nat.{ℕ, _<_, _≤_}
 use borrow.Author.Tests.{le-leb, lt-leb}
+use lib.Dec.{leb}
 use lib.IntN.{ℤ}
 use lib.ListN.{take}
 use Rattle.answers.specs.declared.Place.{Place}
 use Rattle.answers.specs.Answer.{accepted, refused, NodeValues}
 use Rattle.answers.specs.Checks.{every}
+use Rattle.answers.proofs.Tests.{both-true}
 use Rattle.node.specs.Layout.{streamsOf}
 use Rattle.node.specs.Verdict.{verdictOf}
 use Rattle.node.proofs.Outcomes.{accepted-values}
 use Rattle.session.specs.declared.holding.HeldNode.the-variants.{Streams, NoNode}
-use Rattle.session.specs.Records.{valueTyped}
+use Rattle.session.specs.Records.{valueTyped, isNode, holds}
 use Rattle.session.specs.Working.{nodeIn, nodeHeld}
 
 module _ (file : List ℕ) (first : Bool) (last : List ℤ) where
@@ -42,3 +44,11 @@ module _ (file : List ℕ) (size : ℕ) (first : Bool) (last : List ℤ) where
   pub short-enough : size ≤ 1040 → nodeIn (take size file) first last ≡ nodeHeld file size first last
   unfolding nodeHeld nodeIn
   short-enough l = rw (le-leb size 1040 l)
+
+  -- so a record whose length is over 1040 holds none ..
+  pub not-held : {A : Type 0} → 1040 < size → holds file size first last ≡ true → A
+  not-held l e = absurd (false≢true (sym (ap (λ (b : Bool). b && isNode (take size file) first last) (lt-leb size 1040 l)) ∙ e))
+
+  -- .. and what holds one holds that of its file
+  pub short-holds : holds file size first last ≡ true → isNode (take size file) first last ≡ true
+  short-holds e = both-true (leb size 1040) (isNode (take size file) first last) e .1

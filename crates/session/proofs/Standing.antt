@@ -16,12 +16,13 @@ use Rattle.answers.specs.Checks.{every}
 use Rattle.node.specs.Equations.{typeAt}
 use Rattle.node.specs.Layout.{streamsOf}
 use Rattle.node.specs.Note.{withoutNote}
+use Rattle.node.specs.Reads.{orderOf}
 use Rattle.node.specs.Verdict.{verdictOf}
 use Rattle.node.proofs.WellFormedness.{accepted-well-formed}
 use Rattle.node.proofs.WithoutNote.{without-note-accepted}
-use Rattle.streams.specs.Evaluation.{upTo, instant}
+use Rattle.streams.specs.Evaluation.{instant}
 use Rattle.streams.specs.Instant.{instantOf}
-use Rattle.streams.specs.Nodes.{Node, nodeOf, WellFormedNode}
+use Rattle.streams.specs.Nodes.{Node, nodeOf, WellFormedNode, nodeOrder}
 use Rattle.streams.specs.Solutions.{Streams, isFirst, before, Solution}
 use Rattle.streams.specs.Typing.{Fits, fitsTest, Inputs, TypedInstant}
 use Rattle.streams.specs.Values.{valuesIn}
@@ -29,7 +30,7 @@ use Rattle.streams.proofs.Agreement.{Rows, SamePast}
 use Rattle.streams.proofs.Evaluations as Evaluations
 use Rattle.streams.proofs.Keeping.{instant-keeps}
 use Rattle.streams.proofs.Numbers.{fits-test}
-use Rattle.streams.proofs.Orders.{byNumber, ranked-by-number, record-order}
+use Rattle.streams.proofs.Orders.{placeOf, ranked-by-place, worked-out-order}
 use Rattle.streams.proofs.Types.{types-kept}
 use Rattle.session.specs.declared.Session.{Session}
 use Rattle.session.specs.Instants.{workedOut}
@@ -75,32 +76,32 @@ module _ (file : List ℕ) {node : NodeValues} (e : verdictOf file ≡ accepted 
       go false past = last-fits past
 
   module _ (inputs : List ℤ) where
-    worked-out-by : workedOut s inputs ≡ instant (nodeOf file) (upTo (streamsOf file)) inputs (unstarted s) (s .last)
+    worked-out-by : workedOut s inputs ≡ instant (nodeOf file) (orderOf file) inputs (unstarted s) (s .last)
     unfolding instantOf
-    worked-out-by = ap (λ (n : Node). instant n (upTo (n .streams)) inputs (unstarted s) (s .last)) held-node
+    worked-out-by = ap (λ (n : Node). instant n (nodeOrder n) inputs (unstarted s) (s .last)) held-node
 
     pub worked-out-length : length (workedOut s inputs) ≡ streamsOf file
     worked-out-length =
         ap length worked-out-by
-        ∙ Evaluations.instant-length (nodeOf file) (upTo (streamsOf file)) inputs (unstarted s) (s .last)
+        ∙ Evaluations.instant-length (nodeOf file) (orderOf file) inputs (unstarted s) (s .last)
 
     worked-out-rows : Rows (nodeOf file) inputs (unstarted s) (valuesIn (s .last)) (valuesIn (workedOut s inputs))
     worked-out-rows =
         subst (λ (l : List ℤ). Rows (nodeOf file) inputs (unstarted s) (valuesIn (s .last)) (valuesIn l)) (sym worked-out-by)
-        (Evaluations.instant-rows (nodeOf file) byNumber (upTo (streamsOf file)) (record-order (nodeOf file) wf) inputs (unstarted s) (s .last))
+        (Evaluations.instant-rows (nodeOf file) (placeOf (nodeOf file)) (orderOf file) (worked-out-order (nodeOf file) wf) inputs (unstarted s) (s .last))
 
     -- every value worked out from typed inputs fits its type
     pub worked-out-fits : TypedInstant (nodeOf file) inputs → (i : ℕ) → i < streamsOf file → Fits (typeAt file i) (valuesIn (workedOut s inputs) i)
     worked-out-fits typed i l =
-        instant-keeps (nodeOf file) byNumber (ranked-by-number (nodeOf file) wf) (λ k. Fits (typeAt file k)) inputs (unstarted s) (valuesIn (s .last)) (valuesIn (workedOut s inputs))
+        instant-keeps (nodeOf file) (placeOf (nodeOf file)) (ranked-by-place (nodeOf file) wf) (λ k. Fits (typeAt file k)) inputs (unstarted s) (valuesIn (s .last)) (valuesIn (workedOut s inputs))
         (types-kept (nodeOf file) wf inputs typed (unstarted s))
-        worked-out-rows (stands .fits) (suc i) i l (lt-suc-self i)
+        worked-out-rows (stands .fits) (suc (placeOf (nodeOf file) i)) i l (lt-suc-self (placeOf (nodeOf file) i))
 
     -- the values worked out are those of every solution on inputs that go on with these
     pub worked-out-is : (u : Inputs) → StartsWith done (length done) u → u (length done) ≡ inputs → (v : Streams) → Solution (nodeOf file) u v → (i : ℕ) → i < streamsOf file → valuesIn (workedOut s inputs) i ≡ v (length done) i
     worked-out-is u starts own v solves i l =
         ap (λ (k : List ℤ). valuesIn k i) worked-out-by
-        ∙ Evaluations.instant-is (nodeOf file) byNumber (upTo (streamsOf file)) (record-order (nodeOf file) wf) inputs (unstarted s) (s .last) (before v (length done)) (v (length done))
+        ∙ Evaluations.instant-is (nodeOf file) (placeOf (nodeOf file)) (orderOf file) (worked-out-order (nodeOf file) wf) inputs (unstarted s) (s .last) (before v (length done)) (v (length done))
         (stands .last u starts v solves) rows i l
       where
         rows : Rows (nodeOf file) inputs (unstarted s) (before v (length done)) (v (length done))

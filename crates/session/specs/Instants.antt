@@ -11,7 +11,8 @@ use Rattle.answers.specs.Answer.{Answer, accepted, ifAccepted}
 use Rattle.answers.specs.Checks.{check, checkAll, lowest}
 use Rattle.node.specs.Inputs.{inputCount}
 use Rattle.node.specs.Layout.{streamsOf}
-use Rattle.streams.specs.Instant.{inputFits, instantOf, valueInside, filled}
+use Rattle.node.specs.Reads.{orderOf}
+use Rattle.streams.specs.Instant.{inputFits, instantOf, valueInside, firstAlong, filled}
 use Rattle.session.specs.declared.Session.{Session}
 use Rattle.session.specs.Records.{held, unstarted, holdsNode}
 
@@ -37,7 +38,7 @@ answerOf s inputs room =
     (eqb (length inputs) (inputCount (held s)))
     (eqb room (streamsOf (held s)))
     (lowest (inputFits (held s) inputs) (streamsOf (held s)))
-    (lowest (valueInside (workedOut s inputs)) (streamsOf (held s)))
+    (firstAlong (orderOf (held s)) (valueInside (workedOut s inputs)))
 
 -- the record that an answered call leaves: past instant 0, with the instant's values
 abbrev pub movedTo : Session → (values : List ℤ) → Session

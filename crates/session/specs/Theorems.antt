@@ -15,7 +15,9 @@ use Rattle.answers.specs.Checks.{check, checkAll, lowest}
 use Rattle.node.specs.Equations.{typeAt}
 use Rattle.node.specs.Inputs.{isInput, inputCount}
 use Rattle.node.specs.Layout.{streamsOf}
+use Rattle.node.specs.Reads.{orderOf}
 use Rattle.node.specs.Verdict.{verdictOf}
+use Rattle.streams.specs.Instant.{firstAlong}
 use Rattle.streams.specs.Nodes.{nodeOf}
 use Rattle.streams.specs.Solutions.{Streams, Solution}
 use Rattle.streams.specs.Typing.{Inputs, TypedInstant, TypedInputs, fitsTest, given}
@@ -58,7 +60,7 @@ answerGiven file c values =
     check (eqb (length (c .inputs)) (inputCount file)) 31 File
     (check (eqb (length (c .slice)) (streamsOf file)) 32 File
     (checkAll (lowest (inputTyped file (c .inputs)) (streamsOf file)) 33 AtRecord
-    (checkAll (lowest (λ i. inside (values i)) (streamsOf file)) 34 AtRecord
+    (checkAll (firstAlong (orderOf file) (λ i. inside (values i))) 34 AtRecord
     (accepted tt))))
 
 -- v is a solution on the answered inputs and then the call's own

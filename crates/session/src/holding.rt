@@ -1,20 +1,28 @@
 // Whether a record holds a node.
 use answers::NodeVerdict;
+use node::read;
 use node::type_among;
-use node::verdict;
 use streams::is_typed;
 use streams::number_at;
 ghost use mathlib.Core.Path.{_≡_};
-ghost use lib.ListN.{length};
+ghost use mathlib.Core.Bool.{true};
+ghost use lib.ListN.{length, take};
 ghost use Rattle.answers.specs.Checks.{every};
-ghost use Rattle.node.specs.Layout.{recordsOf};
-ghost use Rattle.session.specs.Records.{valueTyped};
+ghost use Rattle.node.specs.Layout.{recordsOf, streamsOf};
+ghost use Rattle.node.specs.Reads.{orderOf};
+ghost use Rattle.session.specs.Records.{valueTyped, isNode, holds};
 ghost use Rattle.session.specs.Working.{nodeIn, nodeHeld};
 
 // The node that a record holds: how many streams it has.
 pub enum HeldNode {
     Streams(usize),
     NoNode,
+}
+
+// The node, and the order of its evaluation: stream `order[k]` is worked out as number k. Where there is no node it says nothing.
+pub struct Held {
+    pub node: HeldNode,
+    pub order: [usize; 64],
 }
 
 // Each of the first n values fits its stream's type, in a file of n.
@@ -33,31 +41,48 @@ fn are_typed(file: &[u8], values: &[i64], n: usize) -> bool
 }
 
 // The node of a file: before instant 0, or with the last answered values.
-fn node_in(file: &[u8], first: bool, last: &[i64]) -> HeldNode
-    ensures { λ r. ⌜ r ≡ nodeIn (now (file .entry)) first (now (last .entry)) ⌝ }
+fn node_in(file: &[u8], first: bool, last: &[i64]) -> Held
+    ensures { λ r. ⌜ r .node ≡ nodeIn (now (file .entry)) first (now (last .entry)) ⌝ }
+    ensures { λ r. ⌜ (isNode (now (file .entry)) first (now (last .entry)) ≡ true → take (streamsOf (now (file .entry))) (r .order) ≡ orderOf (now (file .entry))) ⌝ }
 {
-    match verdict(file) {
+    let node = read(file);
+    let order = node.order;
+    let verdict = node.verdict;
+    match verdict {
         NodeVerdict::Accepted {
             streams,
             property: _,
         } => {
             if first | are_typed(file, last, streams) {
-                HeldNode::Streams(streams)
+                Held {
+                    node: HeldNode::Streams(streams),
+                    order,
+                }
             } else {
-                HeldNode::NoNode
+                Held {
+                    node: HeldNode::NoNode,
+                    order,
+                }
             }
         }
-        NodeVerdict::Refused(_, _) => HeldNode::NoNode,
+        NodeVerdict::Refused(_, _) => Held {
+            node: HeldNode::NoNode,
+            order,
+        },
     }
 }
 
 // The node of a record with these parts. A record is anyone's to fill: its length is looked at before its file is.
-pub fn node_held(file: &[u8], size: usize, first: bool, last: &[i64]) -> HeldNode
+pub fn node_held(file: &[u8], size: usize, first: bool, last: &[i64]) -> Held
     requires { ⌜ length (now file) ≡ 1040 ⌝ }
-    ensures { λ r. ⌜ r ≡ nodeHeld (now (file .entry)) size first (now (last .entry)) ⌝ }
+    ensures { λ r. ⌜ r .node ≡ nodeHeld (now (file .entry)) size first (now (last .entry)) ⌝ }
+    ensures { λ r. ⌜ (holds (now (file .entry)) size first (now (last .entry)) ≡ true → take (streamsOf (take size (now (file .entry)))) (r .order) ≡ orderOf (take size (now (file .entry)))) ⌝ }
 {
     if 1040 < size {
-        return HeldNode::NoNode;
+        return Held {
+            node: HeldNode::NoNode,
+            order: [0usize; 64],
+        };
     }
     node_in(&file[..size], first, last)
 }

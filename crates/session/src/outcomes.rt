@@ -40,7 +40,9 @@ pub fn outcome_of(s: Session, inputs: &[i64], room: usize) -> Outcome
     let file = s.file;
     let last = s.last;
     let first = s.started == 0;
-    let HeldNode::Streams(n) = node_held(&file, length, first, &last) else {
+    let held = node_held(&file, length, first, &last);
+    let found = held.node;
+    let HeldNode::Streams(n) = found else {
         return refused(refusals::NO_NODE, Place::File);
     };
     let node = &file[..length];
@@ -53,7 +55,8 @@ pub fn outcome_of(s: Session, inputs: &[i64], room: usize) -> Outcome
     if let Found::At(i) = first_bad(node, inputs) {
         return refused(refusals::BOOL_INPUT, Place::Record(i));
     }
-    let worked = worked_out(node, inputs, first, &last);
+    let order = held.order;
+    let worked = worked_out(node, &order[..n], inputs, first, &last);
     let outside = worked.outside;
     if let Found::At(i) = outside {
         return refused(refusals::OUTSIDE_RANGE, Place::Record(i));

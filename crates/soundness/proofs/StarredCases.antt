@@ -15,9 +15,11 @@ use Rattle.node.specs.Equations.{typeAmong, decoded}
 use Rattle.node.specs.Inputs.{inputsBelow}
 use Rattle.node.specs.Layout.{streamsOf, recordsOf, recordAmong}
 use Rattle.node.specs.Note.{noteLength}
+use Rattle.node.specs.Order.{isAmong, isReady, lowestReady, orderAfter}
+use Rattle.node.specs.Reads.{neededNow, reads as equationReads, rowFor}
 use Rattle.node.specs.Rules.{lengthOk, fixedOk, countsOk, distanceOk, unusedOk, shapeOk, operandsOk, typesOk, propertyOk}
 use Rattle.node.specs.Table.{rowOf}
-use Rattle.node.specs.Verdict.{recordsVerdict, verdictOf as nodeVerdict}
+use Rattle.node.specs.Verdict.{typesVerdict, recordsVerdict, verdictOf as nodeVerdict}
 use Rattle.node.specs.Written.{recordBytes, trailerBytes, nodeFile}
 use Rattle.constraints.specs.Layout.{usedIn, listedIn}
 use Rattle.constraints.specs.Linear.{written}
@@ -27,8 +29,8 @@ use Rattle.rules.specs.Arithmetic.{sumOf, arithmeticOk}
 use Rattle.rules.specs.Joins.{standsFrom, joins, joinOk}
 use Rattle.rules.specs.Lines.{slotOk, numbersOk, shapeOk as lineShape, basePropertyOk, stepPropertyOk, clauseIs, equationIn, kindFault}
 use Rattle.rules.specs.Verdict.{shapePasses, lineFault, partsVerdict, linesVerdict, constraintsVerdict, fileVerdict, beforeLines, verdictOf}
-use Rattle.streams.specs.Evaluation.{upTo, evaluated, instant}
-use Rattle.streams.specs.Instant.{inputFits, instantOf}
+use Rattle.streams.specs.Evaluation.{evaluated, instant}
+use Rattle.streams.specs.Instant.{inputFits, instantOf, firstOf}
 use Rattle.streams.specs.Values.{equals, truth, valuesIn}
 use Rattle.session.specs.Instants.{workedOut, answerOf, sliceOf}
 use Rattle.session.specs.Lists.{Call}
@@ -71,51 +73,51 @@ answers-by c known =
     }
 
 both-asked : Computed bothAsked
-unfolding twoBands nodeFile recordBytes trailerBytes nodeVerdict recordsVerdict lengthOk fixedOk countsOk distanceOk lowest shapeOk unusedOk operandsOk typesOk propertyOk rowOf recordsOf recordAmong twosComplement every typeAmong decoded inputsBelow noteLength upTo evaluated instant equals truth inputFits instantOf answerOf holdsNode inside
+unfolding twoBands nodeFile recordBytes trailerBytes nodeVerdict recordsVerdict typesVerdict isAmong isReady lowestReady orderAfter neededNow equationReads rowFor lengthOk fixedOk countsOk distanceOk lowest shapeOk unusedOk operandsOk typesOk propertyOk rowOf recordsOf recordAmong twosComplement every typeAmong decoded inputsBelow noteLength evaluated instant firstOf equals truth inputFits instantOf answerOf holdsNode inside
 both-asked = record { node = record { streams = 6; property = 5 }; is-accepted = refl; answered = refl; values = refl }
 
 greatest-doubled : Computed greatestDoubled
-unfolding doubling nodeFile recordBytes trailerBytes nodeVerdict recordsVerdict lengthOk fixedOk countsOk distanceOk lowest shapeOk unusedOk operandsOk typesOk propertyOk rowOf recordsOf recordAmong twosComplement every typeAmong decoded inputsBelow noteLength upTo evaluated instant equals truth inputFits instantOf answerOf holdsNode inside
+unfolding doubling nodeFile recordBytes trailerBytes nodeVerdict recordsVerdict typesVerdict isAmong isReady lowestReady orderAfter neededNow equationReads rowFor lengthOk fixedOk countsOk distanceOk lowest shapeOk unusedOk operandsOk typesOk propertyOk rowOf recordsOf recordAmong twosComplement every typeAmong decoded inputsBelow noteLength evaluated instant firstOf equals truth inputFits instantOf answerOf holdsNode inside
 greatest-doubled = record { node = record { streams = 3; property = 2 }; is-accepted = refl; answered = refl; values = refl }
 
 one-more : Holds (refuses doubling (pos 4611686018427387904 ∷ []) 34 (AtRecord 1))
-unfolding doubling nodeFile recordBytes trailerBytes nodeVerdict recordsVerdict lengthOk fixedOk countsOk distanceOk lowest shapeOk unusedOk operandsOk typesOk propertyOk rowOf recordsOf recordAmong twosComplement every typeAmong decoded inputsBelow noteLength upTo evaluated instant equals truth inputFits instantOf answerOf holdsNode inside
+unfolding doubling nodeFile recordBytes trailerBytes nodeVerdict recordsVerdict typesVerdict isAmong isReady lowestReady orderAfter neededNow equationReads rowFor lengthOk fixedOk countsOk distanceOk lowest shapeOk unusedOk operandsOk typesOk propertyOk rowOf recordsOf recordAmong twosComplement every typeAmong decoded inputsBelow noteLength evaluated instant firstOf equals truth inputFits instantOf answerOf holdsNode inside
 one-more = refl
 
 least-doubled : Computed leastDoubled
-unfolding doubling nodeFile recordBytes trailerBytes nodeVerdict recordsVerdict lengthOk fixedOk countsOk distanceOk lowest shapeOk unusedOk operandsOk typesOk propertyOk rowOf recordsOf recordAmong twosComplement every typeAmong decoded inputsBelow noteLength upTo evaluated instant equals truth inputFits instantOf answerOf holdsNode inside
+unfolding doubling nodeFile recordBytes trailerBytes nodeVerdict recordsVerdict typesVerdict isAmong isReady lowestReady orderAfter neededNow equationReads rowFor lengthOk fixedOk countsOk distanceOk lowest shapeOk unusedOk operandsOk typesOk propertyOk rowOf recordsOf recordAmong twosComplement every typeAmong decoded inputsBelow noteLength evaluated instant firstOf equals truth inputFits instantOf answerOf holdsNode inside
 least-doubled = record { node = record { streams = 3; property = 2 }; is-accepted = refl; answered = refl; values = refl }
 
 opposites-pass : Holds (checks trueAndInts (opposites (minusOne 8) (noughts 8)) (accepted (record { depth = 1; base = 4; step = 3 })))
-unfolding trueAndInts opposites atMost nodeFile recordBytes trailerBytes nodeVerdict recordsVerdict lengthOk fixedOk countsOk distanceOk lowest shapeOk unusedOk operandsOk typesOk propertyOk rowOf recordsOf recordAmong twosComplement line certificateFile certFixed certCounts certDistance verdictOf fileVerdict beforeLines constraintsVerdict partsVerdict linesVerdict every shapePasses lineShape slotOk numbersOk namesAtom lineFault kindFault typeAmong decoded equationIn clauseIs basePropertyOk stepPropertyOk listedIn standsFrom joins joinOk constraintOk termOk usedOk rises termUnused usedIn written sumOf arithmeticOk
+unfolding trueAndInts opposites atMost nodeFile recordBytes trailerBytes nodeVerdict recordsVerdict typesVerdict isAmong isReady lowestReady orderAfter neededNow equationReads rowFor lengthOk fixedOk countsOk distanceOk lowest shapeOk unusedOk operandsOk typesOk propertyOk rowOf recordsOf recordAmong twosComplement line certificateFile certFixed certCounts certDistance verdictOf fileVerdict beforeLines constraintsVerdict partsVerdict linesVerdict every shapePasses lineShape slotOk numbersOk namesAtom lineFault kindFault typeAmong decoded equationIn clauseIs basePropertyOk stepPropertyOk listedIn standsFrom joins joinOk constraintOk termOk usedOk rises termUnused usedIn written sumOf arithmeticOk
 opposites-pass = refl
 
 opposites-fail : Holds (checks trueAndInts (opposites (noughts 8) (noughts 8)) (refused 20 (AtLine 3)))
-unfolding trueAndInts opposites atMost nodeFile recordBytes trailerBytes nodeVerdict recordsVerdict lengthOk fixedOk countsOk distanceOk lowest shapeOk unusedOk operandsOk typesOk propertyOk rowOf recordsOf recordAmong twosComplement line certificateFile certFixed certCounts certDistance verdictOf fileVerdict beforeLines constraintsVerdict partsVerdict linesVerdict every shapePasses lineShape slotOk numbersOk namesAtom lineFault kindFault typeAmong decoded equationIn clauseIs basePropertyOk stepPropertyOk listedIn standsFrom joins joinOk constraintOk termOk usedOk rises termUnused usedIn written sumOf arithmeticOk
+unfolding trueAndInts opposites atMost nodeFile recordBytes trailerBytes nodeVerdict recordsVerdict typesVerdict isAmong isReady lowestReady orderAfter neededNow equationReads rowFor lengthOk fixedOk countsOk distanceOk lowest shapeOk unusedOk operandsOk typesOk propertyOk rowOf recordsOf recordAmong twosComplement line certificateFile certFixed certCounts certDistance verdictOf fileVerdict beforeLines constraintsVerdict partsVerdict linesVerdict every shapePasses lineShape slotOk numbersOk namesAtom lineFault kindFault typeAmong decoded equationIn clauseIs basePropertyOk stepPropertyOk listedIn standsFrom joins joinOk constraintOk termOk usedOk rises termUnused usedIn written sumOf arithmeticOk
 opposites-fail = refl
 
 depth-8 : Holds (checks constantTrue (ofDepth 8) (accepted (record { depth = 8; base = 17; step = 3 })))
-unfolding constantTrue ofDepth nodeFile recordBytes trailerBytes nodeVerdict recordsVerdict lengthOk fixedOk countsOk distanceOk lowest shapeOk unusedOk operandsOk typesOk propertyOk rowOf recordsOf recordAmong twosComplement line certificateFile certFixed certCounts certDistance verdictOf fileVerdict beforeLines constraintsVerdict partsVerdict linesVerdict every shapePasses lineShape slotOk numbersOk namesAtom lineFault kindFault typeAmong decoded equationIn clauseIs basePropertyOk stepPropertyOk listedIn standsFrom joins joinOk
+unfolding constantTrue ofDepth nodeFile recordBytes trailerBytes nodeVerdict recordsVerdict typesVerdict isAmong isReady lowestReady orderAfter neededNow equationReads rowFor lengthOk fixedOk countsOk distanceOk lowest shapeOk unusedOk operandsOk typesOk propertyOk rowOf recordsOf recordAmong twosComplement line certificateFile certFixed certCounts certDistance verdictOf fileVerdict beforeLines constraintsVerdict partsVerdict linesVerdict every shapePasses lineShape slotOk numbersOk namesAtom lineFault kindFault typeAmong decoded equationIn clauseIs basePropertyOk stepPropertyOk listedIn standsFrom joins joinOk
 depth-8 = refl
 
 depth-9 : Holds (checks constantTrue (ofDepth 9) (refused 13 File))
-unfolding constantTrue ofDepth nodeFile recordBytes trailerBytes nodeVerdict recordsVerdict lengthOk fixedOk countsOk distanceOk lowest shapeOk unusedOk operandsOk typesOk propertyOk rowOf recordsOf recordAmong twosComplement line certificateFile certFixed certCounts certDistance verdictOf fileVerdict beforeLines
+unfolding constantTrue ofDepth nodeFile recordBytes trailerBytes nodeVerdict recordsVerdict typesVerdict isAmong isReady lowestReady orderAfter neededNow decoded equationReads rowFor lengthOk fixedOk countsOk distanceOk lowest shapeOk unusedOk operandsOk typesOk propertyOk rowOf recordsOf recordAmong twosComplement line certificateFile certFixed certCounts certDistance verdictOf fileVerdict beforeLines
 depth-9 = refl
 
 size-64 : Holds (reads (ofSize 64) (accepted (record { streams = 64; property = 0 })))
-unfolding ofSize nodeFile recordBytes trailerBytes nodeVerdict recordsVerdict lengthOk fixedOk countsOk distanceOk lowest shapeOk unusedOk operandsOk typesOk propertyOk rowOf recordsOf recordAmong twosComplement
+unfolding ofSize nodeFile recordBytes trailerBytes nodeVerdict recordsVerdict typesVerdict isAmong isReady lowestReady orderAfter neededNow decoded equationReads rowFor lengthOk fixedOk countsOk distanceOk lowest shapeOk unusedOk operandsOk typesOk propertyOk rowOf recordsOf recordAmong twosComplement
 size-64 = refl
 
 size-65 : Holds (reads (ofSize 65) (refused 3 File))
-unfolding ofSize nodeFile recordBytes trailerBytes nodeVerdict recordsVerdict lengthOk fixedOk countsOk distanceOk lowest shapeOk unusedOk operandsOk typesOk propertyOk rowOf recordsOf recordAmong twosComplement
+unfolding ofSize nodeFile recordBytes trailerBytes nodeVerdict recordsVerdict typesVerdict isAmong isReady lowestReady orderAfter neededNow decoded equationReads rowFor lengthOk fixedOk countsOk distanceOk lowest shapeOk unusedOk operandsOk typesOk propertyOk rowOf recordsOf recordAmong twosComplement
 size-65 = refl
 
 bands-whole : Holds (checks twoBands bandsWhole (accepted (record { depth = 1; base = 12; step = 12 })))
-unfolding twoBands bandsWhole nodeFile recordBytes trailerBytes nodeVerdict recordsVerdict lengthOk fixedOk countsOk distanceOk lowest shapeOk unusedOk operandsOk typesOk propertyOk rowOf recordsOf recordAmong twosComplement line certificateFile certFixed certCounts certDistance verdictOf fileVerdict beforeLines constraintsVerdict partsVerdict linesVerdict every shapePasses lineShape slotOk numbersOk namesAtom lineFault kindFault typeAmong decoded equationIn clauseIs basePropertyOk stepPropertyOk listedIn standsFrom joins joinOk
+unfolding twoBands bandsWhole nodeFile recordBytes trailerBytes nodeVerdict recordsVerdict typesVerdict isAmong isReady lowestReady orderAfter neededNow equationReads rowFor lengthOk fixedOk countsOk distanceOk lowest shapeOk unusedOk operandsOk typesOk propertyOk rowOf recordsOf recordAmong twosComplement line certificateFile certFixed certCounts certDistance verdictOf fileVerdict beforeLines constraintsVerdict partsVerdict linesVerdict every shapePasses lineShape slotOk numbersOk namesAtom lineFault kindFault typeAmong decoded equationIn clauseIs basePropertyOk stepPropertyOk listedIn standsFrom joins joinOk
 bands-whole = refl
 
 no-base-lines : Holds (checks twoBands stepAlone (refused 21 Base))
-unfolding twoBands stepAlone nodeFile recordBytes trailerBytes nodeVerdict recordsVerdict lengthOk fixedOk countsOk distanceOk lowest shapeOk unusedOk operandsOk typesOk propertyOk rowOf recordsOf recordAmong twosComplement line certificateFile certFixed certCounts certDistance verdictOf fileVerdict beforeLines constraintsVerdict partsVerdict linesVerdict every shapePasses lineShape slotOk numbersOk namesAtom lineFault kindFault typeAmong decoded equationIn clauseIs basePropertyOk stepPropertyOk listedIn standsFrom joins joinOk
+unfolding twoBands stepAlone nodeFile recordBytes trailerBytes nodeVerdict recordsVerdict typesVerdict isAmong isReady lowestReady orderAfter neededNow equationReads rowFor lengthOk fixedOk countsOk distanceOk lowest shapeOk unusedOk operandsOk typesOk propertyOk rowOf recordsOf recordAmong twosComplement line certificateFile certFixed certCounts certDistance verdictOf fileVerdict beforeLines constraintsVerdict partsVerdict linesVerdict every shapePasses lineShape slotOk numbersOk namesAtom lineFault kindFault typeAmong decoded equationIn clauseIs basePropertyOk stepPropertyOk listedIn standsFrom joins joinOk
 no-base-lines = refl
 
 pub starred : Starred

@@ -1,5 +1,5 @@
 -- Every file that the node reader accepts has exactly one solution on all typed inputs, it depends on the past alone, and the
--- evaluation in record order computes it.
+-- evaluation along the worked-out order computes it.
 -- Assumes nothing.
 use mathlib.Core.Path.{_≡_, refl, subst}
 use mathlib.Core.List.{List}
@@ -7,11 +7,12 @@ use Prim.Native.Nat.{ℕ, _<_, _≤_}
 use native.Mathlib.Nat.{le-trans}
 use Rattle.answers.specs.Answer.{accepted, NodeValues}
 use Rattle.node.specs.Layout.{streamsOf}
+use Rattle.node.specs.Reads.{orderOf}
 use Rattle.node.specs.Verdict.{verdictOf}
 use Rattle.node.proofs.WellFormedness.{accepted-well-formed}
 use Rattle.node.specs.declared.equation.StreamType.{StreamType}
-use Rattle.streams.specs.Evaluation.{upTo, instants}
-use Rattle.streams.specs.Nodes.{Node, nodeOf, WellFormedNode}
+use Rattle.streams.specs.Evaluation.{instants}
+use Rattle.streams.specs.Nodes.{Node, nodeOf, WellFormedNode, nodeOrder}
 use Rattle.streams.specs.Solutions.{Streams, Solution}
 use Rattle.streams.specs.Theorems.{OneSolution, DependsOnlyOnPast, EvaluationIs}
 use Rattle.streams.specs.Typing.{Fits, Inputs, TypedInputs}
@@ -19,22 +20,22 @@ use Rattle.streams.specs.Values.{valuesIn}
 use Rattle.streams.proofs.Agreement.{agree-until}
 use Rattle.streams.proofs.Evaluations as Evaluations
 use Rattle.streams.proofs.Numbers.{zero-or-one}
-use Rattle.streams.proofs.Orders.{byNumber, ranked-by-number, record-order}
+use Rattle.streams.proofs.Orders.{placeOf, ranked-by-place, worked-out-order}
 use Rattle.streams.proofs.Types.{rows-fit}
 
 module _ (node : Node) (wf : WellFormedNode node) where
-  -- the values that the evaluation in record order gives
+  -- the values that the evaluation along the worked-out order gives
   abbrev worked-out : Inputs → Streams
-  worked-out inputs t = valuesIn (instants node (upTo (node .streams)) inputs t)
+  worked-out inputs t = valuesIn (instants node (nodeOrder node) inputs t)
 
   pub worked-out-solves : (inputs : Inputs) → TypedInputs node inputs → Solution node inputs (worked-out inputs)
   worked-out-solves inputs typed =
-      let rows = Evaluations.instants-rows node byNumber (upTo (node .streams)) (record-order node wf) inputs in
+      let rows = Evaluations.instants-rows node (placeOf node) (nodeOrder node) (worked-out-order node wf) inputs in
       record { fits = rows-fit node wf inputs typed (worked-out inputs) rows; holds = rows }
 
   pub depends : (inputs others : Inputs) (v w : Streams) → Solution node inputs v → Solution node others w → (t : ℕ) → ((j : ℕ) → j ≤ t → inputs j ≡ others j) → (s : ℕ) → s < node .streams → v t s ≡ w t s
   depends inputs others v w of-v of-w =
-      agree-until node byNumber (ranked-by-number node wf) inputs others v w (of-v .holds) (of-w .holds)
+      agree-until node (placeOf node) (ranked-by-place node wf) inputs others v w (of-v .holds) (of-w .holds)
 
 module _ (s : List ℕ) {node : NodeValues} (e : verdictOf s ≡ accepted node) where
   wf : WellFormedNode (nodeOf s)
@@ -53,4 +54,4 @@ module _ (s : List ℕ) {node : NodeValues} (e : verdictOf s ≡ accepted node) 
       depends (nodeOf s) wf inputs others v w of-v of-w j (λ k m. same k (le-trans m l)) i
 
   pub evaluation-is : EvaluationIs s
-  evaluation-is = Evaluations.evaluation-is (nodeOf s) byNumber (upTo (streamsOf s)) (record-order (nodeOf s) wf)
+  evaluation-is = Evaluations.evaluation-is (nodeOf s) (placeOf (nodeOf s)) (orderOf s) (worked-out-order (nodeOf s) wf)

@@ -7,6 +7,7 @@ pub mod Numbers
 pub mod Orders
 pub mod Reading
 pub mod Results
+pub mod Spreading
 pub mod Typed
 pub mod Types
 pub mod WorkingOut

@@ -1,19 +1,16 @@
 -- Orders of evaluation: each operand that is needed now stands before its record. What follows from the rows rests on a rank of
--- each stream alone; the record order, where a stream's rank is its number, is one order.
+-- each stream alone; in the worked-out order it is the stream's place.
 -- Assumes nothing.
-use mathlib.Core.Path.{_≡_, refl, _∙_}
-use mathlib.Core.Logic.{⊎-elim}
+use mathlib.Core.Path.{_≡_}
 use mathlib.Core.Bool.{true}
-use mathlib.Core.List.{List, [], _∷_}
-use Prim.Native.Nat.{ℕ, zero, suc, _<_}
-use native.Mathlib.Nat.{not-suc-le-zero, eq-or-lt-of-le, le-of-suc-le-suc}
+use mathlib.Core.List.{List}
+use Prim.Native.Nat.{ℕ, _<_}
 use native.Mathlib.Omega.{arith}
-use lib.ListN.{length, getD, length-append, List·getD-append}
-use lib.Seq.{getD-at}
+use lib.ListN.{length, getD}
+use Rattle.node.specs.Order.{placeIn}
 use Rattle.node.specs.Reads.{Read, reads, All, ReadOk}
-use Rattle.streams.specs.Evaluation.{upTo}
-use Rattle.streams.specs.Nodes.{Node, WellFormedNode}
-use Rattle.streams.proofs.Reading.{all-map}
+use Rattle.streams.specs.Nodes.{Node, WellFormedNode, nodeOrder}
+use Rattle.streams.proofs.Reading.{all-map₂}
 
 -- an operand of stream s: a stream, and settled before s where it is needed now
 pub record Settled (n : ℕ) (rank : ℕ → ℕ) (s : ℕ) (r : Read) : Type 0 where
@@ -31,36 +28,25 @@ pub record Order (node : Node) (rank : ℕ → ℕ) (order : List ℕ) : Type 0 
   pub names : (k : ℕ) → k < length order → getD order k 0 < node .streams
   pub rank-at : (k : ℕ) → k < length order → rank (getD order k 0) ≡ k
 
--- ---- the record order
+-- ---- the worked-out order
 
-abbrev pub byNumber : ℕ → ℕ
-byNumber s = s
+-- a stream's place in it
+abbrev pub placeOf : Node → (s : ℕ) → ℕ
+placeOf node = placeIn (nodeOrder node)
 
-pub upTo-length : (n : ℕ) → length (upTo n) ≡ n
-unfolding upTo
-upTo-length zero = refl
-upTo-length (suc n) = length-append (upTo n) (n ∷ []) ∙ omega (arith, upTo-length n)
+pub ranked-by-place : (node : Node) → WellFormedNode node → Ranked node (placeOf node)
+ranked-by-place node wf s l =
+    all-map₂ {P = ReadOk (node .streams) (node .types) s} {Q = λ r. r .now ≡ true → placeOf node (r .stream) < placeOf node s} {R = Settled (node .streams) (placeOf node) s}
+    (λ r ok after. record { below = ok .below; lower = after })
+    (reads (node .equations s)) (wf .operands s l) (wf .ordered .after s l)
 
-pub upTo-at : (n k : ℕ) → k < n → getD (upTo n) k 0 ≡ k
-unfolding upTo
-upTo-at zero k l = absurd (not-suc-le-zero l)
-upTo-at (suc n) k l =
-    ⊎-elim (λ (e : k ≡ n). rw e (getD-at (upTo n) n [] 0 n (upTo-length n)))
-    (λ (m : k < n). List·getD-append (upTo n) (n ∷ []) 0 k (omega (arith, upTo-length n)) ∙ upTo-at n k m)
-    (eq-or-lt-of-le (le-of-suc-le-suc l))
-
-pub ranked-by-number : (node : Node) → WellFormedNode node → Ranked node byNumber
-ranked-by-number node wf s l =
-    all-map {P = ReadOk (node .streams) (node .types) s} {Q = Settled (node .streams) byNumber s}
-    (λ r ok. record { below = ok .below; lower = ok .lower })
-    (reads (node .equations s)) (wf .operands s l)
-
-pub record-order : (node : Node) → WellFormedNode node → Order node byNumber (upTo (node .streams))
-record-order node wf =
+pub worked-out-order : (node : Node) → WellFormedNode node → Order node (placeOf node) (nodeOrder node)
+worked-out-order node wf =
+    let ordered = wf .ordered in
     record {
-      ranked = ranked-by-number node wf;
-      within = λ s l. omega (arith, upTo-length (node .streams));
-      at-rank = λ s l. upTo-at (node .streams) s l;
-      names = λ k l. rw (upTo-at (node .streams) k (omega (arith, upTo-length (node .streams)))) (omega (arith, upTo-length (node .streams)));
-      rank-at = λ k l. upTo-at (node .streams) k (omega (arith, upTo-length (node .streams)));
+      ranked = ranked-by-place node wf;
+      within = λ s l. omega (arith, ordered .size, ordered .has s l);
+      at-rank = ordered .at-place;
+      names = λ k l. ordered .names k (omega (arith, ordered .size));
+      rank-at = λ k l. ordered .once k (omega (arith, ordered .size));
     }

@@ -21,7 +21,7 @@ use Rattle.streams.specs.Values.{number, truth, equals, Values}
 use Rattle.streams.proofs.Agreement.{AllRows}
 use Rattle.streams.proofs.Keeping.{Keeps, solution-keeps}
 use Rattle.streams.proofs.Numbers.{number-fits}
-use Rattle.streams.proofs.Orders.{byNumber, ranked-by-number}
+use Rattle.streams.proofs.Orders.{placeOf, ranked-by-place}
 use Rattle.streams.proofs.Reading.{all-map₂, found, isRead}
 
 constant-fits : (own : StreamType) (k : ℤ) → InRange Value own k → Fits own k
@@ -72,5 +72,5 @@ types-kept node wf inputs typed first s l p v h =
 
 pub rows-fit : (node : Node) → WellFormedNode node → (inputs : Inputs) → TypedInputs node inputs → (values : Streams) → AllRows node inputs values → (t s : ℕ) → s < node .streams → Fits (node .types s) (values t s)
 rows-fit node wf inputs typed values rows =
-    solution-keeps node byNumber (ranked-by-number node wf) (λ s. Fits (node .types s)) inputs values rows
+    solution-keeps node (placeOf node) (ranked-by-place node wf) (λ s. Fits (node .types s)) inputs values rows
     (λ t. types-kept node wf (inputs t) (typed t) (isFirst t))

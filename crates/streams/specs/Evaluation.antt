@@ -2,18 +2,13 @@
 -- this: that the array then holds the solution's values is a theorem (proofs/Evaluations.antt).
 use Prim.Native.Nat.{ℕ, zero, suc}
 use mathlib.Core.Bool.{Bool, true, false}
-use mathlib.Core.List.{List, [], _∷_, _++_}
+use mathlib.Core.List.{List, []}
 use lib.IntN.{ℤ, pos}
 use lib.ListN.{length, getD, set, replicate}
 use Rattle.streams.specs.Nodes.{Node}
 use Rattle.streams.specs.Solutions.{row}
 use Rattle.streams.specs.Typing.{Inputs}
 use Rattle.streams.specs.Values.{Values, valuesIn}
-
--- 0, 1, 2 .. below n: "An operand needed now has a lower number than its record"
-unfoldable pub upTo : (n : ℕ) → List ℕ
-upTo zero = []
-upTo (suc n) = upTo n ++ (n ∷ [])
 
 -- the value of stream s, worked out from the values so far: its row's, whatever reads it
 abbrev pub worked : Node → (inputs : List ℤ) → (first : Bool) → (past : Values) → (s : ℕ) → (present : Values) → ℤ

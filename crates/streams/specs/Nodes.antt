@@ -6,7 +6,7 @@ use Rattle.node.specs.declared.equation.Equation.{Equation}
 use Rattle.node.specs.Equations.{typeAt, equationAt}
 use Rattle.node.specs.Inputs.{inputsBelow, inputCount}
 use Rattle.node.specs.Layout.{streamsOf, propertyOf}
-use Rattle.node.specs.Reads.{WellFormed}
+use Rattle.node.specs.Reads.{WellFormed, workedOutOrder}
 
 pub record Node : Type 0 where
   pub streams : ℕ  -- "stream count n"
@@ -31,3 +31,7 @@ nodeOf s =
 -- all that is known of an accepted file's node
 abbrev pub WellFormedNode : Node → Type 0
 WellFormedNode node = WellFormed (node .streams) (node .property) (node .types) (node .equations)
+
+-- its worked-out order; of a file's node, `orderOf`
+abbrev pub nodeOrder : Node → List ℕ
+nodeOrder node = workedOutOrder (node .equations) (node .streams)

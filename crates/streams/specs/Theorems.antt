@@ -7,7 +7,8 @@ use lib.IntN.{pos}
 use Rattle.node.specs.declared.equation.StreamType.the-variants.{Bool as BoolType}
 use Rattle.node.specs.Equations.{typeAt}
 use Rattle.node.specs.Layout.{streamsOf}
-use Rattle.streams.specs.Evaluation.{upTo, instants}
+use Rattle.node.specs.Reads.{orderOf}
+use Rattle.streams.specs.Evaluation.{instants}
 use Rattle.streams.specs.Nodes.{nodeOf}
 use Rattle.streams.specs.Solutions.{Streams, Solution}
 use Rattle.streams.specs.Typing.{Inputs, TypedInputs}
@@ -26,8 +27,8 @@ DependsOnlyOnPast s =
     → (t : ℕ) → ((j : ℕ) → j ≤ t → inputs j ≡ others j)
     → (j i : ℕ) → j ≤ t → i < streamsOf s → v j i ≡ w j i
 
--- the evaluation in record order, instant after instant, ends with the solution's values
+-- the evaluation along the worked-out order, instant after instant, ends with the solution's values
 abbrev pub EvaluationIs : List ℕ → Type 0
 EvaluationIs s =
     (inputs : Inputs) (v : Streams) → Solution (nodeOf s) inputs v
-    → (t i : ℕ) → i < streamsOf s → valuesIn (instants (nodeOf s) (upTo (streamsOf s)) inputs t) i ≡ v t i
+    → (t i : ℕ) → i < streamsOf s → valuesIn (instants (nodeOf s) (orderOf s) inputs t) i ≡ v t i

@@ -4,23 +4,20 @@ use crate::value;
 use answers::Found;
 use integers::Checked;
 use node::equation_among;
-use node::records_of;
 use node::with_record;
-ghost use Prim.Native.Nat.{min};
+ghost use Prim.Native.Nat.{_≤_};
 ghost use mathlib.Core.Path.{_≡_};
+ghost use mathlib.Core.Bool.{true};
 ghost use lib.IntN.{pos};
-ghost use lib.ListN.{take};
-ghost use Rattle.integers.specs.Range.{checkedOf};
+ghost use Rattle.answers.specs.Answer.{isAccepted};
 ghost use Rattle.answers.specs.declared.Found.the-variants.{Nothing};
-ghost use Rattle.answers.specs.Checks.{lowest, orElse};
-ghost use Rattle.node.specs.Inputs.{inputsBelow};
+ghost use Rattle.answers.specs.Checks.{orElse};
 ghost use Rattle.node.specs.Layout.{recordsOf};
-ghost use Rattle.streams.specs.Evaluation.{worked};
-ghost use Rattle.streams.specs.Instant.{instantOf, valueInside, workedCount, filled, isValue, numberIn};
-ghost use Rattle.streams.specs.Nodes.{nodeOf};
-ghost use Rattle.streams.specs.Values.{valuesIn};
+ghost use Rattle.node.specs.Reads.{orderOf};
+ghost use Rattle.node.specs.Verdict.{verdictOf};
+ghost use Rattle.streams.specs.Instant.{instantOf, valueInside, firstAlong, HoldInputs, filled, isValue, numberIn};
 
-// The lowest stream whose value 64 signed bits do not hold, and the values where there is none.
+// The first stream in the order whose value 64 signed bits do not hold, and the values where there is none.
 pub struct Worked {
     pub outside: Found,
     pub values: [i64; 64],
@@ -46,7 +43,7 @@ fn number_of(value: Checked) -> i64
     }
 }
 
-// The lowest found so far, with stream i: what was found before stays.
+// The first found so far, with stream i: what was found before stays.
 fn or_else(found: Found, ok: bool, i: usize) -> Found
     ensures { λ r. ⌜ r ≡ orElse found ok i ⌝ }
 {
@@ -59,54 +56,40 @@ fn or_else(found: Found, ok: bool, i: usize) -> Found
     }
 }
 
-// The value of stream i of n, below which there are j inputs.
-fn value_of(
-    file: &[u8],
-    n: usize,
-    inputs: &[i64],
-    first: bool,
-    past: &[i64],
-    present: &[i64],
-    i: usize,
-    j: usize,
-) -> Checked
-    requires { ⌜ (n ≡ recordsOf (now file)) × (j ≡ inputsBelow (now file) i) ⌝ }
-    ensures { λ r. ⌜ r ≡ checkedOf (worked (nodeOf (now (file .entry))) (now (inputs .entry)) first (valuesIn (now (past .entry))) i (valuesIn (now (present .entry)))) ⌝ }
+// The input of each of n streams, so that one can be worked out in any turn. The inputs below each are counted along the way.
+fn spread(file: &[u8], n: usize, inputs: &[i64]) -> [i64; 64]
+    requires { ⌜ (n ≡ recordsOf (now file)) × (n ≤ 64) ⌝ }
+    ensures { λ r. ⌜ HoldInputs (now (file .entry)) (now (inputs .entry)) n r ⌝ }
 {
-    value(
-        equation_among(file, n, i),
-        number_at(inputs, j),
-        first,
-        past,
-        present,
-    )
-}
-
-// As many of n as an array of 64 takes.
-fn count_of(n: usize) -> usize
-    ensures { λ r. ⌜ r ≡ min n 64 ⌝ }
-{
-    if n < 64 { n } else { 64 }
-}
-
-// All streams in record order, untaken branches too, as many as the array takes. Past one that 64 signed bits do not hold the array
-// says nothing.
-pub fn worked_out(file: &[u8], inputs: &[i64], first: bool, past: &[i64]) -> Worked
-    ensures { λ r. ⌜ r .outside ≡ lowest (valueInside (instantOf (now (file .entry)) (now (inputs .entry)) first (now (past .entry)))) (workedCount (now (file .entry))) ⌝ }
-    ensures { λ r. ⌜ (r .outside ≡ Nothing → r .values ≡ filled 64 (pos 0) (take (workedCount (now (file .entry))) (instantOf (now (file .entry)) (now (inputs .entry)) first (now (past .entry))))) ⌝ }
-{
-    let n = records_of(file);
-    let count = count_of(n);
-    let mut values = [0i64; 64];
-    let mut outside = Found::Nothing;
+    let mut given = [0i64; 64];
     let mut j = 0;
     let mut i = 0;
-    while i < count {
-        let value = value_of(file, n, inputs, first, past, &values, i, j);
-        outside = or_else(outside, is_inside(value), i);
-        values[i] = number_of(value);
+    while i < n {
+        given[i] = number_at(inputs, j);
         j = with_record(file, n, i, j);
         i += 1;
+    }
+    given
+}
+
+// All streams along the worked-out order of an accepted file, untaken branches too. Past one that 64 signed bits do not hold the array
+// says nothing.
+pub fn worked_out(file: &[u8], order: &[usize], inputs: &[i64], first: bool, past: &[i64]) -> Worked
+    requires { ⌜ (isAccepted (verdictOf (now file)) ≡ true) × (now order ≡ orderOf (now file)) ⌝ }
+    ensures { λ r. ⌜ r .outside ≡ firstAlong (orderOf (now (file .entry))) (valueInside (instantOf (now (file .entry)) (now (inputs .entry)) first (now (past .entry)))) ⌝ }
+    ensures { λ r. ⌜ (r .outside ≡ Nothing → r .values ≡ filled 64 (pos 0) (instantOf (now (file .entry)) (now (inputs .entry)) first (now (past .entry)))) ⌝ }
+{
+    let n = order.len();
+    let given = spread(file, n, inputs);
+    let mut values = [0i64; 64];
+    let mut outside = Found::Nothing;
+    let mut k = 0;
+    while k < n {
+        let i = order[k];
+        let made = value(equation_among(file, n, i), given[i], first, past, &values);
+        outside = or_else(outside, is_inside(made), i);
+        values[i] = number_of(made);
+        k += 1;
     }
     Worked { outside, values }
 }

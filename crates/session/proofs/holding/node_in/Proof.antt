@@ -1,45 +1,66 @@
--- `session::node_in` meets its contract: an accepted file's node, where past instant 0 the last values fit.
+-- `session::node_in` meets its contract: an accepted file's node and its order, where past instant 0 the last values fit.
 -- Assumes nothing.
 use mathlib.Core.Path.{_≡_, sym, _∙_, ap}
+use mathlib.Core.Bool.{true}
 use denote.Ref.{now}
-use Rattle.answers.specs.Answer.{accepted, nodeAnswer}
+use Rattle.answers.specs.Answer.{accepted, nodeAnswer, isAccepted}
+use Rattle.answers.proofs.Tests.{both-true}
 use Rattle.node.specs.Verdict.{verdictOf}
 use Rattle.node.proofs.Notes.{accepted-count}
+use Rattle.session.specs.Records.{isNode}
 use Rattle.session.proofs.HeldNodes.{typed, untyped, not-accepted}
 use borrow.Author.Needs.{needs}
 use Rattle.session.proofs.holding.node_in.Statement.{statement}
 use Rattle.session.proofs.holding.node_in.Tie as tie
 
-verdict-requires : tie.Need-verdict-requires
-verdict-requires c κs = search needs
+read-requires : tie.Need-read-requires
+read-requires c κs = search needs
 
-enum-known-streams : tie.Need-enum-known-streams
-enum-known-streams c = search needs
+enum-known-verdict : tie.Need-enum-known-verdict
+enum-known-verdict c = search needs
 
-enum-told : tie.Need-enum-told
-enum-told c = search needs
+accepted-is : (c : tie.After-known-told) → verdictOf (now (c .before .before .before .before .before .before .args .file)) ≡ accepted (record { streams = c .before .verdict .given .0 .0; property = c .before .verdict .given .0 .1 .0 })
+accepted-is c = sym (c .before .before .before .before .read .ensures .0) ∙ ap nodeAnswer (c .before .verdict .given .1)
 
-accepted-is : (c : tie.After-known-told) → verdictOf (now (c .before .before .before .before .before .args .file)) ≡ accepted (record { streams = c .before .streams .given .0 .0; property = c .before .streams .given .0 .1 .0 })
-accepted-is c = sym (c .before .before .before .verdict .ensures) ∙ ap nodeAnswer (c .before .streams .given .1)
+-- what holds a node is accepted
+node-accepted : (s : tie.Start) → isNode (now (s .args .file)) (s .args .first) (now (s .args .last)) ≡ true → isAccepted (verdictOf (now (s .args .file))) ≡ true
+node-accepted s e = both-true (isAccepted (verdictOf (now (s .args .file)))) _ e .0
 
 are-typed-requires : tie.Need-are-typed-requires
 are-typed-requires c κs = accepted-count _ (accepted-is c)
 
+enum-told : tie.Need-enum-told
+enum-told c = search needs
+
 returns : tie.Need-returns
-returns c = typed _ _ _ (accepted-is (c .before .before)) (rw (c .before .are-typed .ensures) at (c .if1 .taken))
+returns c =
+    let told = c .before .before in
+    let read = told .before .before .before .before in (
+      typed _ _ _ (accepted-is told) (rw (c .before .are-typed .ensures) at (c .if1 .taken)),
+      λ e. read .read .ensures .1 (node-accepted (read .before .before) e),
+    )
 
 returns-2 : tie.Need-returns-2
-returns-2 c = untyped _ _ _ (accepted-is (c .before .before)) (rw (c .before .are-typed .ensures) at (c .if1 .left))
+returns-2 c =
+    let told = c .before .before in
+    let read = told .before .before .before .before in (
+      untyped _ _ _ (accepted-is told) (rw (c .before .are-typed .ensures) at (c .if1 .left)),
+      λ e. read .read .ensures .1 (node-accepted (read .before .before) e),
+    )
 
 returns-3 : tie.Need-returns-3
-returns-3 c = not-accepted _ _ _ (sym (c .before .before .verdict .ensures) ∙ ap nodeAnswer (c .enum-told .given .1))
+returns-3 c =
+    let read = c .before .before .before in (
+      not-accepted _ _ _ (sym (read .read .ensures .0) ∙ ap nodeAnswer (c .enum-told .given .1)),
+      λ e. read .read .ensures .1 (node-accepted (read .before .before) e),
+    )
 
 pub node-in-spec : {M : Type 1} → statement M
 node-in-spec =
     tie.close
     (tie.spec
-    verdict-requires
-    enum-known-streams
+    read-requires
+    enum-known-verdict
     are-typed-requires
     enum-told
     returns

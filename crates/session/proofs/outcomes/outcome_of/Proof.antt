@@ -2,23 +2,23 @@
 -- Assumes nothing.
 use mathlib.Core.Path.{_≡_, refl, sym, _∙_, ap}
 use mathlib.Core.Bool.{true}
+use Prim.Native.Nat.{ℕ, _≤_}
 use native.Mathlib.Omega.{arith}
 use borrow.Author.Tests.{eq-eqb, ne-eqb}
 use denote.Ref.{now}
 use lib.Dec.{eqb}
-use lib.IntN.{pos}
-use lib.ListN.{length, length-map}
+use lib.ListN.{length, take, length-map}
 use lib.Seq.{length-take-le}
 use Rattle.answers.specs.declared.Found.the-variants.{Nothing}
 use Rattle.answers.specs.Checks.{lowest}
 use Rattle.node.specs.Inputs.{inputCount}
 use Rattle.node.specs.Layout.{streamsOf}
+use Rattle.node.specs.Reads.{orderOf}
 use Rattle.node.proofs.FileRules.{Sizes}
-use Rattle.streams.specs.Instant.{inputFits, valueInside, filled}
-use Rattle.streams.proofs.WorkingOut.{count-whole, instant-whole}
+use Rattle.streams.specs.Instant.{inputFits, valueInside, firstAlong}
 use Rattle.session.specs.Records.{held, holdsNode}
 use Rattle.session.specs.Instants.{workedOut}
-use Rattle.session.proofs.Answering.{holds-none, holds-one, held-short, held-sizes, answer-by, refusal}
+use Rattle.session.proofs.Answering.{holds-none, holds-one, held-short, held-accepted, held-sizes, answer-by, refusal}
 use borrow.Author.Needs.{needs}
 use Rattle.session.proofs.outcomes.outcome_of.Statement.{statement}
 use Rattle.session.proofs.outcomes.outcome_of.Tie as tie
@@ -35,8 +35,8 @@ slice-aggregate-node-held-2 c = search needs
 node-held-requires : tie.Need-node-held-requires
 node-held-requires c κs = file-long (c .before .before .before .before .before)
 
-enum-known-n : tie.Need-enum-known-n
-enum-known-n c = search needs
+enum-known-found : tie.Need-enum-known-found
+enum-known-found c = search needs
 
 enum-told : tie.Need-enum-told
 enum-told c = search needs
@@ -48,8 +48,8 @@ abbrev start-of : tie.After-known-told → tie.Start
 start-of c = c .before .before .before .before .before .before .before .before .before
 
 -- the node that was found is the record's
-one : (c : tie.After-known-told) → let s = start-of c .args .s in (holdsNode s ≡ true) × (c .before .n .given .0 .0 ≡ streamsOf (held s))
-one c = holds-one _ (sym (c .before .before .before .node-held .ensures) ∙ c .before .n .given .1)
+one : (c : tie.After-known-told) → let s = start-of c .args .s in (holdsNode s ≡ true) × (c .before .found .given .0 .0 ≡ streamsOf (held s))
+one c = holds-one _ (sym (c .before .before .before .node-held .ensures .0) ∙ c .before .found .given .1)
 
 abbrev told-of : tie.Else2 → tie.After-known-told
 told-of c = c .before .before .before .before
@@ -57,7 +57,7 @@ told-of c = c .before .before .before .before
 returns : tie.Need-returns
 returns c =
     refusal _ _ _ _ (c .refused .ensures)
-    (answer-by _ _ _ (holds-none _ (sym (c .before .before .before .node-held .ensures) ∙ c .before .enum-told .given .1)) refl refl refl refl)
+    (answer-by _ _ _ (holds-none _ (sym (c .before .before .before .node-held .ensures .0) ∙ c .before .enum-told .given .1)) refl refl refl refl)
 
 array-share-prefix-file : tie.Need-array-share-prefix-file
 array-share-prefix-file c = omega (arith, file-long (start-of c), held-short _ (one c .0))
@@ -88,10 +88,8 @@ bad-is c = ap (lowest _) (sym (sizes (c .before) .records)) ∙ sym (c .first-ba
 typed : (c : tie.After-enum-told2) → let a = start-of (told-of (c .before .before .before)) .args in lowest (inputFits (held (a .s)) (now (a .inputs))) (streamsOf (held (a .s))) ≡ Nothing
 typed c = bad-is (c .before .before) ∙ c .enum-told2 .given .1
 
-outside-is : (c : tie.After-worked-out) → let a = start-of (told-of (c .before .before .before .before .before)) .args in lowest (valueInside (workedOut (a .s) (now (a .inputs)))) (streamsOf (held (a .s))) ≡ c .worked-out .result .outside
-outside-is c =
-    let size = sizes (c .before .before .before .before .before) in
-    ap (lowest _) (sym (count-whole _ (size .records) (size .few))) ∙ sym (c .worked-out .ensures .0)
+outside-is : (c : tie.After-worked-out) → let a = start-of (told-of (c .before .before .before .before .before .before .before)) .args in firstAlong (orderOf (held (a .s))) (valueInside (workedOut (a .s) (now (a .inputs)))) ≡ c .worked-out .result .outside
+outside-is c = sym (c .worked-out .ensures .0)
 
 returns-2 : tie.Need-returns-2
 returns-2 c =
@@ -128,11 +126,34 @@ returns-4 c =
 enum-told-2 : tie.Need-enum-told-2
 enum-told-2 c = search needs
 
+-- the order has room for 64
+order-long : (c : tie.After-node-held) → length (c .node-held .result .order) ≡ 64
+order-long c = simp length-map at (c .node-held .ok .1 .1 .1 .0 .1 .0 .1)
+
+-- the node's streams are few
+few : (c : tie.After-enum-told2) → let told = told-of (c .before .before .before) in told .before .found .given .0 .0 ≤ 64
+few c =
+    let at = c .before .before .before in
+    omega (arith, one (told-of at) .1, sizes at .few)
+
+array-share-prefix-order : tie.Need-array-share-prefix-order
+array-share-prefix-order c = omega (arith, few (c .before), order-long (told-of (c .before .before .before .before) .before .before .before))
+
 slice-aggregate-worked-out : tie.Need-slice-aggregate-worked-out
-slice-aggregate-worked-out c = search needs
+slice-aggregate-worked-out c =
+    let told = c .before .before in
+    let held-node = told-of (told .before .before .before) .before .before .before in
+    sym (length-take-le _ (held-node .node-held .result .order) (omega (arith, few told, order-long held-node)))
+
+slice-aggregate-worked-out-2 : tie.Need-slice-aggregate-worked-out-2
+slice-aggregate-worked-out-2 c = search needs
 
 worked-out-requires : tie.Need-worked-out-requires
-worked-out-requires c κs = search needs
+unfolding holdsNode
+worked-out-requires c κs =
+    let told = told-of (c .before .before .before .before .before .before) in
+    let holds = one told in
+    (held-accepted (start-of told .args .s) (holds .0), ap (λ (n : ℕ). take n (told .before .before .before .node-held .result .order)) (holds .1) ∙ told .before .before .before .node-held .ensures .1 (holds .0))
 
 enum-known-outside : tie.Need-enum-known-outside
 enum-known-outside c = search needs
@@ -143,7 +164,7 @@ refused-requires-5 c κs = search needs
 returns-5 : tie.Need-returns-5
 returns-5 c =
     let worked = c .before .before .before .before in
-    let told = worked .before .before in
+    let told = worked .before .before .before .before in
     let at = told .before .before .before in
     refusal _ _ _ _ (c .refused5 .ensures)
     (answer-by _ _ _ (one (told-of at) .0) (counted (at .before)) (sized at) (typed told) (outside-is worked ∙ c .before .before .outside .given .1))
@@ -154,11 +175,11 @@ enum-told-3 c = search needs
 returns-6 : tie.Need-returns-6
 returns-6 c =
     let worked = c .before .before .before in
-    let told = worked .before .before in
+    let told = worked .before .before .before .before in
     let at = told .before .before .before in
     let none = c .before .enum-told3 .given .1 in (
       answer-by _ _ _ (one (told-of at) .0) (counted (at .before)) (sized at) (typed told) (outside-is worked ∙ none),
-      λ e. worked .worked-out .ensures .1 none ∙ ap (filled 64 (pos 0)) (instant-whole _ (sizes at .records) (sizes at .few) _ _ _),
+      λ e. worked .worked-out .ensures .1 none,
     )
 
 pub outcome-of-spec : {M : Type 1} → statement M
@@ -168,7 +189,7 @@ outcome-of-spec =
     slice-aggregate-node-held
     slice-aggregate-node-held-2
     node-held-requires
-    enum-known-n
+    enum-known-found
     enum-told
     refused-requires
     returns
@@ -184,7 +205,9 @@ outcome-of-spec =
     refused-requires-4
     returns-4
     enum-told-2
+    array-share-prefix-order
     slice-aggregate-worked-out
+    slice-aggregate-worked-out-2
     worked-out-requires
     enum-known-outside
     refused-requires-5

@@ -1,0 +1,159 @@
+-- Flags of placed records, and what records need as packed numbers, against the order so far: the tests that are made of them are the
+-- definition's.
+-- Assumes nothing.
+use mathlib.Core.Path.{_≡_, refl, sym, _∙_, ap, subst}
+use mathlib.Core.Logic.{⊎-elim}
+use mathlib.Core.Bool.{Bool, true, false, not, cond, _&&_, _||_, or-false}
+use mathlib.Core.List.{List, [], _∷_, _++_}
+use Prim.Native.Nat.{ℕ, zero, suc, _+_, _*_, _/_, _%_, _<_, _≤_}
+use native.Mathlib.Nat.{not-suc-le-zero, le-of-suc-le-suc, eq-or-lt-of-le}
+use native.Mathlib.Decide.{ℕ-discrete}
+use native.Mathlib.Omega.{arith}
+use borrow.Author.Tests.{ltb-true, eq-eqb, ne-eqb}
+use lib.Dec.{eqb, ltb}
+use lib.ListN.{length, getD, set, replicate, length-replicate, getD-replicate, List·getD-eq-default}
+use lib.Seq.{getD-set-same, getD-set-other}
+use Rattle.answers.specs.Checks.{lowest}
+use Rattle.answers.proofs.Tests.{both-true}
+use Rattle.node.specs.declared.layout.Record.{Record}
+use Rattle.node.specs.declared.table.Operand.{Operand}
+use Rattle.node.specs.declared.table.Operand.the-variants.{Unused, Now, Before}
+use Rattle.node.specs.declared.table.Row.{Row}
+use Rattle.node.specs.Equations.{decoded}
+use Rattle.node.specs.Layout.{recordOf}
+use Rattle.node.specs.Order.{isAmong, allAmong, isReady}
+use Rattle.node.specs.Ordering.{neededAs, packed, packedNeeds, isFlagged, readyBy, HoldNeeds}
+use Rattle.node.specs.Reads.{Read, reading, rowReads, neededIn, neededNow}
+use Rattle.node.specs.Rules.{shapeOk, isStream, operandsOk}
+use Rattle.node.specs.Table.{rowOf}
+use Rattle.node.proofs.Different.{among-append, or-right}
+use Rattle.node.proofs.Needs.{needed-is}
+
+-- a placed record is not ready
+pub placed-waits : (flags needs : List ℕ) (i : ℕ) → isFlagged flags i ≡ true → not (readyBy flags needs i) ≡ true
+unfolding readyBy
+placed-waits flags needs i e = rw e
+
+-- the needs of one record more
+pub needs-more : (file needs : List ℕ) (i : ℕ) {made : ℕ} → HoldNeeds file i needs → i < length needs → made ≡ packedNeeds (recordOf file i) → HoldNeeds file (i + 1) (set needs i made)
+needs-more file needs i {made} hold l e k h = go (ℕ-discrete k i)
+  where
+    go : Dec (k ≡ i) → getD (set needs i made) k 0 ≡ packedNeeds (recordOf file k)
+    go (yes p) = rw p (getD-set-same needs i made 0 l ∙ e)
+    go (no n) = getD-set-other needs i k made 0 n ∙ hold k (omega arith)
+
+-- ---- three operands in one number
+
+module _ (a b c : ℕ) (la : a ≤ 64) (lb : b ≤ 64) (lc : c ≤ 64) where
+  unpacked-a : packed a b c % 128 ≡ a
+  unpacked-a = omega arith
+
+  unpacked-b : packed a b c / 128 % 128 ≡ b
+  unpacked-b = omega arith
+
+  unpacked-c : packed a b c / 16384 % 128 ≡ c
+  unpacked-c = omega arith
+
+-- ---- flags
+
+-- flags that say of each record whether it is placed
+pub record Flagging (flags order : List ℕ) : Type 0 where
+  pub size : length flags ≡ 64
+  pub says : (x : ℕ) → x < 64 → isFlagged flags x ≡ isAmong order x
+
+pub flagging-none : Flagging (replicate 64 0) []
+unfolding isAmong
+flagging-none = record { size = length-replicate {A = ℕ} 64 0; says = λ x l. rw (getD-replicate {A = ℕ} 64 x 0 1 l) }
+
+pub flagged-set : (flags : List ℕ) (i x : ℕ) → i < length flags → isFlagged flags x ≡ true → isFlagged (set flags i 1) x ≡ true
+flagged-set flags i x l e = go (ℕ-discrete x i)
+  where
+    go : Dec (x ≡ i) → isFlagged (set flags i 1) x ≡ true
+    go (yes p) = rw (p, getD-set-same flags i 1 1 l)
+    go (no n) = rw (getD-set-other flags i x 1 1 n) e
+
+pub flagged-own : (flags : List ℕ) (i : ℕ) → i < length flags → isFlagged (set flags i 1) i ≡ true
+flagged-own flags i l = rw (getD-set-same flags i 1 1 l)
+
+module _ (flags order : List ℕ) (flagging : Flagging flags order) where
+  pub flagging-more : (i : ℕ) → i < 64 → length (set flags i 1) ≡ 64 → Flagging (set flags i 1) (order ++ (i ∷ []))
+  flagging-more i l size = record { size = size; says = λ x m. go x m (ℕ-discrete x i) }
+    where
+      go : (x : ℕ) → x < 64 → Dec (x ≡ i) → isFlagged (set flags i 1) x ≡ isAmong (order ++ (i ∷ [])) x
+      go x m (yes p) = rw p (flagged-own flags i (omega (arith, flagging .size)) ∙ sym (among-append order i i ∙ or-right (isAmong order i) (eq-eqb i i refl)))
+      go x m (no n) =
+          rw (getD-set-other flags i x 1 1 n)
+          (flagging .says x m ∙ sym (among-append order i x ∙ rw (ne-eqb i x (λ p. n (sym p))) (or-false (isAmong order x))))
+
+  -- ---- one operand, as the row reads it
+
+  no-stream : isFlagged flags 64 ≡ true
+  no-stream = rw (List·getD-eq-default flags 1 {n = 64} (omega (arith, flagging .size)))
+
+  module _ (n : ℕ) (few : n ≤ 64) where
+    needed-small : (operand : Operand) (x : ℕ) → isStream operand n x ≡ true → neededAs operand x ≤ 64
+    needed-small Unused x e = omega arith
+    needed-small (Now wanted) x e = omega (arith, ltb-true x n e)
+    needed-small (Before wanted) x e = omega arith
+
+    operand-is : (operand : Operand) (x : ℕ) → isStream operand n x ≡ true → allAmong order (neededIn (reading operand x)) ≡ isFlagged flags (neededAs operand x)
+    operand-is Unused x e = sym no-stream
+    operand-is (Now wanted) x e = and-true (isAmong order x) ∙ sym (flagging .says x (omega (arith, ltb-true x n e)))
+      where
+        and-true : (b : Bool) → (b && true) ≡ b
+        and-true true = refl
+        and-true false = refl
+    operand-is (Before wanted) x e = sym no-stream
+
+    -- ---- a record
+
+    all-append : (xs ys : List Read) → allAmong order (neededIn (xs ++ ys)) ≡ (allAmong order (neededIn xs) && allAmong order (neededIn ys))
+    all-append [] ys = refl
+    all-append (r ∷ xs) ys = go (r .now) (all-append xs ys)
+      where
+        and-assoc : (a b c : Bool) → (a && (b && c)) ≡ ((a && b) && c)
+        and-assoc true b c = refl
+        and-assoc false b c = refl
+
+        go : (b : Bool) → allAmong order (neededIn (xs ++ ys)) ≡ (allAmong order (neededIn xs) && allAmong order (neededIn ys)) → allAmong order (cond b (r .stream ∷ neededIn (xs ++ ys)) (neededIn (xs ++ ys))) ≡ (allAmong order (cond b (r .stream ∷ neededIn xs) (neededIn xs)) && allAmong order (neededIn ys))
+        go true e = ap (λ (t : Bool). isAmong order (r .stream) && t) e ∙ and-assoc (isAmong order (r .stream)) _ _
+        go false e = e
+
+    module _ (r : Record) (shape : shapeOk r ≡ true) (operands : operandsOk n r ≡ true) where
+      abbrev row : Row
+      row = rowOf (r .op)
+
+      abbrev flag : Operand → ℕ → Bool
+      flag operand x = isFlagged flags (neededAs operand x)
+
+      streams : (isStream (row .a) n (r .a) ≡ true) × (isStream (row .b) n (r .b) ≡ true) × (isStream (row .c) n (r .c) ≡ true)
+      unfolding operandsOk
+      streams =
+          let a = isStream (row .a) n (r .a) in
+          let b = isStream (row .b) n (r .b) in
+          let two = both-true (a && b) (isStream (row .c) n (r .c)) operands in
+          let one = both-true a b (two .0) in
+          (one .0, one .1, two .1)
+
+      all-placed : allAmong order (neededNow (decoded r)) ≡ (flag (row .a) (r .a) && (flag (row .b) (r .b) && flag (row .c) (r .c)))
+      all-placed =
+          ap (allAmong order) (needed-is r shape)
+          ∙ all-append (reading (row .a) (r .a)) _
+          ∙ ap (λ (t : Bool). allAmong order (neededIn (reading (row .a) (r .a))) && t) (all-append (reading (row .b) (r .b)) _)
+          ∙ rw (operand-is (row .a) (r .a) (streams .0), operand-is (row .b) (r .b) (streams .1), operand-is (row .c) (r .c) (streams .2))
+
+      pub ready-is : (needs : List ℕ) (i : ℕ) → i < 64 → getD needs i 0 ≡ packedNeeds r → readyBy flags needs i ≡ (not (isAmong order i) && allAmong order (neededNow (decoded r)))
+      unfolding readyBy packedNeeds
+      ready-is needs i l e =
+          let a = neededAs (row .a) (r .a) in
+          let b = neededAs (row .b) (r .b) in
+          let c = neededAs (row .c) (r .c) in
+          let la = needed-small (row .a) (r .a) (streams .0) in
+          let lb = needed-small (row .b) (r .b) (streams .1) in
+          let lc = needed-small (row .c) (r .c) (streams .2) in
+          rw (e, unpacked-a a b c la lb lc, unpacked-b a b c la lb lc, unpacked-c a b c la lb lc, flagging .says i l, all-placed) (regroup (not (isAmong order i)) _ _ _)
+        where
+          regroup : (p q s t : Bool) → (((p && q) && s) && t) ≡ (p && (q && (s && t)))
+          regroup true true s t = refl
+          regroup true false s t = refl
+          regroup false q s t = refl

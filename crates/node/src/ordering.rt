@@ -1,0 +1,255 @@
+// The order of evaluation: each time the lowest record whose operands needed now are all placed. Where all of them are lower than
+// their records it is the order of the records, and nothing is searched.
+use crate::layout::Record;
+use crate::layout::record_among;
+use crate::table::Operand;
+use crate::table::row_of;
+use answers::Found;
+ghost use Prim.Native.Nat.{_<_, _≤_};
+ghost use mathlib.Core.Path.{_≡_};
+ghost use mathlib.Core.Bool.{true, not};
+ghost use lib.ListN.{length, take};
+ghost use Rattle.answers.specs.declared.Found.the-variants.{Nothing};
+ghost use Rattle.answers.specs.Checks.{every, lowest};
+ghost use Rattle.node.specs.declared.reading.RecordRule.the-variants.{Shape, Operands};
+ghost use Rattle.node.specs.Equations.{equationAt};
+ghost use Rattle.node.specs.Layout.{recordsOf, recordOf};
+ghost use Rattle.node.specs.Ordering.{isLower, lowerOk, neededAs, packedNeeds, isFlagged, AllFlagged, readyBy, HoldNeeds};
+ghost use Rattle.node.specs.Reads.{workedOutOrder};
+ghost use Rattle.node.specs.Verdict.{passesOf, neverPlaced};
+
+// The order, and the lowest record that is never placed: where there is none, the order has all.
+pub struct Order {
+    pub streams: [usize; 64],
+    pub unplaced: Found,
+}
+
+// The order of the records.
+pub const RECORD_ORDER: [usize; 64] = [
+    0,
+    1,
+    2,
+    3,
+    4,
+    5,
+    6,
+    7,
+    8,
+    9,
+    10,
+    11,
+    12,
+    13,
+    14,
+    15,
+    16,
+    17,
+    18,
+    19,
+    20,
+    21,
+    22,
+    23,
+    24,
+    25,
+    26,
+    27,
+    28,
+    29,
+    30,
+    31,
+    32,
+    33,
+    34,
+    35,
+    36,
+    37,
+    38,
+    39,
+    40,
+    41,
+    42,
+    43,
+    44,
+    45,
+    46,
+    47,
+    48,
+    49,
+    50,
+    51,
+    52,
+    53,
+    54,
+    55,
+    56,
+    57,
+    58,
+    59,
+    60,
+    61,
+    62,
+    63,
+];
+
+// An operand that is read is below n and, where it is needed now, lower than its record.
+fn is_lower(operand: Operand, n: usize, i: usize, x: usize) -> bool
+    ensures { λ r. ⌜ r ≡ isLower operand n i x ⌝ }
+{
+    match operand {
+        Operand::Unused => true,
+        Operand::Now(_) => (x < n) & (x < i),
+        Operand::Before(_) => x < n,
+    }
+}
+
+// All operands of record i are.
+fn lower_ok(n: usize, i: usize, r: Record) -> bool
+    ensures { λ z. ⌜ z ≡ lowerOk n i r ⌝ }
+{
+    let row = row_of(r.op);
+    let a = row.a;
+    let b = row.b;
+    let c = row.c;
+    is_lower(a, n, i, r.a as usize)
+        & is_lower(b, n, i, r.b as usize)
+        & is_lower(c, n, i, r.c as usize)
+}
+
+// All operands of all n records are.
+pub fn in_record_order(file: &[u8], n: usize) -> bool
+    requires { ⌜ n ≡ recordsOf (now file) ⌝ }
+    ensures { λ r. ⌜ r ≡ every (λ i. lowerOk n i (recordOf (now (file .entry)) i)) n ⌝ }
+{
+    let mut i = 0;
+    while i < n {
+        if !lower_ok(n, i, record_among(file, n, i)) {
+            return false;
+        }
+        i += 1;
+    }
+    true
+}
+
+// An operand that is needed now, or 64, which is no stream.
+fn needed(operand: Operand, x: u16) -> u16
+    ensures { λ r. ⌜ r ≡ neededAs operand x ⌝ }
+{
+    match operand {
+        Operand::Unused => 64,
+        Operand::Now(_) => x,
+        Operand::Before(_) => 64,
+    }
+}
+
+// What a record needs now, its three operands as one number.
+fn needs_of(r: Record) -> usize
+    ensures { λ z. ⌜ z ≡ packedNeeds r ⌝ }
+{
+    let row = row_of(r.op);
+    let a = row.a;
+    let b = row.b;
+    let c = row.c;
+    let first = needed(a, r.a) as usize;
+    let second = needed(b, r.b) as usize;
+    let third = needed(c, r.c) as usize;
+    first + 128 * second + 16384 * third
+}
+
+// What each of n records needs now.
+fn needs_of_all(file: &[u8], n: usize) -> [usize; 64]
+    requires { ⌜ (n ≡ recordsOf (now file)) × (n ≤ 64) ⌝ }
+    ensures { λ r. ⌜ HoldNeeds (now (file .entry)) n r ⌝ }
+{
+    let mut needs = [0usize; 64];
+    let mut i = 0;
+    while i < n {
+        needs[i] = needs_of(record_among(file, n, i));
+        i += 1;
+    }
+    needs
+}
+
+// Whether stream x is placed; what is no stream counts as placed.
+fn is_placed(flags: &[u8], x: usize) -> bool
+    ensures { λ r. ⌜ r ≡ isFlagged (now (flags .entry)) x ⌝ }
+{
+    if x < flags.len() { flags[x] == 1 } else { true }
+}
+
+// Whether record i can be placed next.
+fn is_ready(flags: &[u8], needs: &[usize], i: usize) -> bool
+    requires { ⌜ i < length (now needs) ⌝ }
+    ensures { λ r. ⌜ r ≡ readyBy (now (flags .entry)) (now (needs .entry)) i ⌝ }
+{
+    if is_placed(flags, i) {
+        return false;
+    }
+    let operands = needs[i];
+    // Most that are not ready wait for their first operand.
+    if !is_placed(flags, operands % 128) {
+        return false;
+    }
+    is_placed(flags, operands / 128 % 128) & is_placed(flags, operands / 16384 % 128)
+}
+
+// The lowest of n records that can be placed next, where none below `low` can.
+fn lowest_ready(flags: &[u8], needs: &[usize], low: usize, n: usize) -> Found
+    requires { ⌜ (low ≤ n) × (n ≤ length (now needs)) × AllFlagged (now flags) low ⌝ }
+    ensures { λ r. ⌜ r ≡ lowest (λ i. not (readyBy (now (flags .entry)) (now (needs .entry)) i)) n ⌝ }
+{
+    let mut i = low;
+    while i < n {
+        if is_ready(flags, needs, i) {
+            return Found::At(i);
+        }
+        i += 1;
+    }
+    Found::Nothing
+}
+
+// The lowest of n records that is not placed, where all below `low` are.
+fn lowest_unplaced(flags: &[u8], low: usize, n: usize) -> Found
+    requires { ⌜ (low ≤ n) × AllFlagged (now flags) low ⌝ }
+    ensures { λ r. ⌜ r ≡ lowest (isFlagged (now (flags .entry))) n ⌝ }
+{
+    let mut i = low;
+    while i < n {
+        if !is_placed(flags, i) {
+            return Found::At(i);
+        }
+        i += 1;
+    }
+    Found::Nothing
+}
+
+// The order by searching. All records below `low` are placed, so a search starts there.
+pub fn searched_order(file: &[u8], n: usize) -> Order
+    requires { ⌜ (n ≡ recordsOf (now file)) × (n ≤ 64) × (every (passesOf (now file) n Shape) n ≡ true) × (every (passesOf (now file) n Operands) n ≡ true) ⌝ }
+    ensures { λ r. ⌜ r .unplaced ≡ neverPlaced (workedOutOrder (equationAt (now (file .entry))) n) n ⌝ }
+    ensures { λ r. ⌜ (r .unplaced ≡ Nothing → take n (r .streams) ≡ workedOutOrder (equationAt (now (file .entry))) n) ⌝ }
+{
+    let needs = needs_of_all(file, n);
+    let mut streams = [0usize; 64];
+    let mut flags = [0u8; 64];
+    let mut low = 0;
+    let mut k = 0;
+    while k < n {
+        let Found::At(i) = lowest_ready(&flags, &needs, low, n) else {
+            return Order {
+                streams,
+                unplaced: lowest_unplaced(&flags, low, n),
+            };
+        };
+        streams[k] = i;
+        flags[i] = 1;
+        if i == low {
+            low += 1;
+        }
+        k += 1;
+    }
+    Order {
+        streams,
+        unplaced: lowest_unplaced(&flags, low, n),
+    }
+}
