@@ -4,13 +4,15 @@
 //! the readers. [`proof`] keeps a part's lines and works out joins,
 //! [`search`] finds certificates, [`multiples`] writes some by cuts,
 //! [`factors`] multiplies constraints through and [`orders`] has some that
-//! are, [`random`] draws nodes and damages files.
+//! are, [`renumber`] puts records into another order, [`random`] draws nodes
+//! and damages files.
 
 pub mod factors;
 pub mod multiples;
 pub mod orders;
 pub mod proof;
 pub mod random;
+pub mod renumber;
 pub mod search;
 
 /// The type byte of a bool stream.

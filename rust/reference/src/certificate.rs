@@ -1,4 +1,5 @@
-//! The certificate checker: refusals 11 to 22, after 1 to 8 on the node file.
+//! The certificate checker: refusals 11 to 22, after 1 to 8 and 23 on the
+//! node file.
 
 pub mod constraint;
 pub mod equation;
@@ -41,7 +42,7 @@ impl Part {
 ///
 /// 01: "Checks run down the table, each over all its records first; lines are
 /// taken one at a time, 16 before its kind's number. Certificate checks
-/// follow 1 to 8. The first failure is given."
+/// follow 1 to 8. The first failure is given." They follow 23 too.
 pub fn check(node_file: &[u8], certificate_file: &[u8]) -> Verdict {
     let node = node::read(node_file)?;
     let layout = Layout::read(certificate_file)?;

@@ -1,6 +1,9 @@
-//! The node reader: refusals 1 to 8.
+//! The node reader: refusals 1 to 8, and 23 between 6 and 7.
+
+mod order;
 
 use crate::answer::{Place, Refusal};
+use order::Order;
 
 /// Length of the trailer and of a record.
 const BLOCK: usize = 16;
@@ -118,7 +121,7 @@ pub enum Equation {
     },
 }
 
-/// A booking node: a node file that passed 1 to 8.
+/// A booking node: a node file that passed 1 to 8 and 23.
 #[derive(Clone, Debug)]
 pub struct Node<'a> {
     note: &'a [u8],
@@ -129,6 +132,7 @@ pub struct Node<'a> {
     equations: [Equation; MAX_STREAMS],
     inputs: [u8; MAX_STREAMS],
     input_count: usize,
+    order: Order,
 }
 
 impl<'a> Node<'a> {
@@ -166,6 +170,12 @@ impl<'a> Node<'a> {
     /// The input streams, in record order.
     pub fn inputs(&self) -> &[u8] {
         &self.inputs[..self.input_count]
+    }
+
+    /// The streams in the order in which an instant works them out: each
+    /// after those that it needs now.
+    pub fn order(&self) -> &[u8] {
+        &self.order[..self.count]
     }
 
     /// The type of stream `number`, if there is such a stream.
@@ -329,16 +339,24 @@ impl Fields {
                 .all(|(operand, stream)| !matches!(operand, Operand::Unused) || stream == 0)
     }
 
-    /// Refusal 6: "operand not below n, or needed now and not lower".
-    fn reads_existing_streams(&self, own: usize, count: usize) -> bool {
+    /// Refusal 6: "operand not below n". 02: "Condition 6 keeps only “not
+    /// below n”."
+    fn reads_existing_streams(&self, count: usize) -> bool {
         let Some(row) = self.row() else {
             return false;
         };
         self.uses(row).all(|(operand, stream)| match operand {
             Operand::Unused => true,
-            Operand::Now(_) => usize::from(stream) < own,
-            Operand::Before(_) => usize::from(stream) < count,
+            Operand::Now(_) | Operand::Before(_) => usize::from(stream) < count,
         })
+    }
+
+    /// The streams that a record needs now, one bit a stream. It passed 6: they
+    /// are below 64.
+    fn needed_now(&self) -> u64 {
+        let uses = self.row().into_iter().flat_map(|row| self.uses(row));
+        let now = uses.filter(|(operand, _)| matches!(operand, Operand::Now(_)));
+        now.fold(0, |needed, (_, stream)| needed | 1 << stream)
     }
 
     /// Refusal 7: "type byte or operand type not the operator's".
@@ -399,14 +417,28 @@ fn each_record(
     }
 }
 
-/// Refusals 5 to 8 over the records. Rule 8, "property not bool", has the
-/// property's record as its place.
-fn check_records(records: &[Fields], property: usize) -> Result<(), Refusal> {
+/// Refusals 5 to 8 over the records, and 23 "after 6 and before 7". Rule 8,
+/// "property not bool", has the property's record as its place. Gives the
+/// order of the streams.
+fn check_records(records: &[Fields], property: usize) -> Result<Order, Refusal> {
     let count = records.len();
     each_record(records, 5, |_, r| r.is_well_formed())?;
-    each_record(records, 6, |i, r| r.reads_existing_streams(i, count))?;
+    each_record(records, 6, |_, r| r.reads_existing_streams(count))?;
+    let order = order_of(records)?;
     each_record(records, 7, |_, r| r.is_well_typed(records))?;
-    each_record(records, 8, |i, r| i != property || r.result() == Type::Bool)
+    each_record(records, 8, |i, r| i != property || r.result() == Type::Bool)?;
+    Ok(order)
+}
+
+/// The order of records that passed 6, or refusal 23: "no such order, with the
+/// lowest record never placed".
+fn order_of(records: &[Fields]) -> Result<Order, Refusal> {
+    let mut needed = [0; MAX_STREAMS];
+    for (slot, record) in needed.iter_mut().zip(records) {
+        *slot = record.needed_now();
+    }
+    let order = order::of(&needed[..records.len()]);
+    order.map_err(|lowest| Refusal::new(23, Place::Record(lowest)))
 }
 
 /// A node file cut at its trailer and at record 0: refusals 1 to 4.
@@ -451,7 +483,7 @@ fn record_0(file: &[u8], count: usize, distance: u32) -> Option<usize> {
     file.len().checked_sub(expected)
 }
 
-/// Reads a node file, or refuses it by 1 to 8.
+/// Reads a node file, or refuses it by 1 to 8 or 23.
 pub fn read(file: &[u8]) -> Result<Node<'_>, Refusal> {
     let layout = Layout::read(file)?;
     let mut fields = [Fields::ZERO; MAX_STREAMS];
@@ -460,12 +492,12 @@ pub fn read(file: &[u8]) -> Result<Node<'_>, Refusal> {
     }
     let count = layout.records.len().min(MAX_STREAMS);
     let records = &fields[..count];
-    check_records(records, usize::from(layout.property))?;
-    Ok(decode(&layout, records))
+    let order = check_records(records, usize::from(layout.property))?;
+    Ok(decode(&layout, records, order))
 }
 
-/// The node of a layout whose records passed 5 to 8.
-fn decode<'a>(layout: &Layout<'a>, records: &[Fields]) -> Node<'a> {
+/// The node of a layout whose records passed 5 to 8 and 23.
+fn decode<'a>(layout: &Layout<'a>, records: &[Fields], order: Order) -> Node<'a> {
     let mut node = Node {
         note: layout.note,
         body: layout.body,
@@ -475,6 +507,7 @@ fn decode<'a>(layout: &Layout<'a>, records: &[Fields]) -> Node<'a> {
         equations: [Equation::Input; MAX_STREAMS],
         inputs: [0; MAX_STREAMS],
         input_count: 0,
+        order,
     };
     for ((number, record), i) in (0u8..).zip(records).zip(0..) {
         node.types[i] = record.result();
@@ -488,7 +521,7 @@ fn decode<'a>(layout: &Layout<'a>, records: &[Fields]) -> Node<'a> {
 }
 
 /// 01: "the note is handed back as a part of the caller's file, empty if 1 to
-/// 8 refuse it".
+/// 8 refuse it". So it is if 23 does.
 pub fn note(file: &[u8]) -> &[u8] {
     read(file).map_or(&[], |node| node.note())
 }

@@ -36,7 +36,7 @@ impl Record {
     }
 
     /// The node held; nothing is the first half of refusal 30: "record holds
-    /// no node passing 1 to 8".
+    /// no node passing 1 to 8". 02 has 23 "part of 30's condition".
     fn node(&self) -> Option<Node<'_>> {
         node::read(self.bytes.get(..self.length)?).ok()
     }
@@ -54,7 +54,7 @@ impl Default for Record {
 }
 
 /// 01: "Beginning takes a node file, checked by 1 to 8, and sets the record
-/// to its node, before instant 0."
+/// to its node, before instant 0." It is checked by 23 too.
 pub fn begin(record: &mut Record, file: &[u8]) -> Result<(), Refusal> {
     let node = node::read(file)?;
     let body = node.body();
@@ -83,7 +83,7 @@ pub fn instant(record: &mut Record, inputs: &[i64], values: &mut [i64]) -> Resul
 }
 
 /// Refusal 30: "record holds no node passing 1 to 8, or, past instant 0, a
-/// bool of the last answered instant is not 0 or 1".
+/// bool of the last answered instant is not 0 or 1"; 23 is as 1 to 8 are.
 fn checked_node(record: &Record) -> Result<Node<'_>, Refusal> {
     let node = record.node().ok_or(Refusal::file(30))?;
     let in_type = |(kind, value): (&Type, &i64)| *kind == Type::Int || is_bool(*value);
@@ -119,23 +119,24 @@ fn is_bool(value: i64) -> bool {
     matches!(value, 0 | 1)
 }
 
-/// 01: "All n streams are worked out, untaken branches too." Streams are
-/// taken by rising number, so the first value that does not fit is that of
-/// refusal 34: "value outside −2^63 to 2^63 − 1; lowest stream".
+/// 01: "All n streams are worked out, untaken branches too." Refusal 34:
+/// "value outside −2^63 to 2^63 − 1". 02: "34 names the first stream in the
+/// worked-out order".
 fn work_out(node: &Node, before: Option<&Values>, inputs: &[i64]) -> Result<Values, Refusal> {
     let mut now = [0; MAX_STREAMS];
     for (&stream, &input) in node.inputs().iter().zip(inputs) {
         now[usize::from(stream)] = input;
     }
-    for (i, &equation) in node.equations().iter().enumerate() {
-        let value = value(i, equation, &now, before);
+    for i in node.order().iter().copied().map(usize::from) {
+        let value = value(i, node.equations()[i], &now, before);
         now[i] = wide::narrow(value).ok_or(Refusal::new(34, Place::Record(i)))?;
     }
     Ok(now)
 }
 
 /// Stream `own`'s value in its operator's row, however wide. The operands
-/// needed now have lower numbers, so `now` has them, as it has every input.
+/// needed now come before it in the order, so `now` has them, as it has every
+/// input.
 fn value(own: usize, equation: Equation, now: &Values, before: Option<&Values>) -> i128 {
     let at = |stream: u8| now[usize::from(stream)];
     let fitting = match equation {

@@ -79,6 +79,19 @@ fn a_node_alone() {
 }
 
 #[test]
+fn a_loop_is_listed_as_it_stands() {
+    let records = vec![Record::not(1), Record::and(2, 0), Record::input(BOOL)];
+    let listing = files(&NodeFile::new(records, 0).bytes(), None);
+    let lines = [
+        "stream 0 bool = not 1 (property)",
+        "stream 1 bool = 2 and 0",
+        "stream 2 bool = input",
+        "refused 23 record 0",
+    ];
+    assert_eq!(listing[1..], lines);
+}
+
+#[test]
 fn a_wrong_use_is_told() {
     let folder = named("two-bands").path;
     let usage = "reference-list: usage: reference-list node.bin [cert.bin]\n";

@@ -6,7 +6,8 @@ mod examples;
 
 use reference::answer::Verdict;
 use reference::build::random::{self, damage, Random};
-use reference::build::{search, BOOL, INT};
+use reference::build::renumber::Renumbering;
+use reference::build::{search, NodeFile, BOOL, INT};
 use reference::node::{self, Type};
 use reference::session::{begin, instant, Record as Session};
 use reference::{certificate, session};
@@ -14,20 +15,31 @@ use std::collections::BTreeMap;
 
 type Pair = (Vec<u8>, Vec<u8>);
 
-/// The examples, and nodes drawn at random that have a certificate.
+/// The examples, and nodes drawn at random that have a certificate, each also
+/// in another order.
 fn seeds(random: &mut Random) -> Vec<Pair> {
-    let mut pairs: Vec<Pair> = examples::certified()
-        .iter()
-        .map(|(node, certificate)| (node.bytes(), certificate.bytes()))
-        .collect();
+    let mut certified = examples::certified();
     for i in 0..1_500 {
-        let node = random::node(random, 3 + i % 9).bytes();
+        let node = random::node(random, 3 + i % 9);
         let depth = [1, 1, 2, 3][random.below(4)];
-        if let Some(found) = search::certificate(&node, depth) {
-            pairs.push((node, found.bytes()));
+        if let Some(found) = search::certificate(&node.bytes(), depth) {
+            certified.push((node, found));
         }
     }
+    let mut pairs = Vec::new();
+    for (node, certificate) in certified {
+        pairs.push((node.bytes(), certificate.bytes()));
+        let other = another_order(random, &node);
+        let certificate = other.certificate(&certificate);
+        pairs.push((other.node(&node).bytes(), certificate.bytes()));
+    }
     pairs
+}
+
+/// Some order of the node's records.
+fn another_order(random: &mut Random, node: &NodeFile) -> Renumbering {
+    let count = u16::try_from(node.records.len()).unwrap();
+    Renumbering::random(random, count)
 }
 
 /// Inputs for one instant.
@@ -83,7 +95,7 @@ fn checked(random: &mut Random, (node, certificate): &Pair) -> Verdict {
 fn seeds_are_accepted_and_hold() {
     let mut random = Random::new(1);
     let pairs = seeds(&mut random);
-    assert!(pairs.len() > 300, "{}", pairs.len());
+    assert!(pairs.len() > 600, "{}", pairs.len());
     for pair in &pairs {
         for _ in 0..5 {
             assert!(checked(&mut random, pair).is_ok());
@@ -110,7 +122,7 @@ fn damaged_pairs() {
         *tally.entry(number).or_default() += 1;
     }
     // Every refusal was met, and some damage does no harm.
-    for number in [0, 1, 2, 3, 4, 5, 6, 7, 8].into_iter().chain(11..=22) {
+    for number in (0..=8).chain(11..=23) {
         assert!(tally.contains_key(&number), "{number} of {tally:?}");
     }
 }
@@ -188,7 +200,11 @@ fn damaged_session_records() {
     let mut tally: BTreeMap<u8, usize> = BTreeMap::new();
     for _ in 0..60_000 {
         let size = 3 + random.below(8);
-        let file = random::node(&mut random, size).bytes();
+        let mut node = random::node(&mut random, size);
+        if random.below(2) == 0 {
+            node = another_order(&mut random, &node).node(&node);
+        }
+        let file = node.bytes();
         let mut record = Session::new();
         begin(&mut record, &file).unwrap();
         let mut drawn = inputs(&mut random, &node::read(&file).unwrap());

@@ -1,4 +1,4 @@
-//! Refusals 1 to 8, their places and their limits.
+//! Refusals 1 to 8, their places and their limits; 23 is in `any_order.rs`.
 
 mod common;
 
@@ -267,54 +267,44 @@ fn refusal_5_names_the_lowest_record_before_6() {
     let low = patched(&file, 16, &[14]);
     node_refused(&patched(&low, 4 * 16, &[14]), 5, At(1));
     // Record 2 is against 6, record 5 against 5: 5 is taken over all first.
-    let six = patched(&file, 2 * 16 + 2, &[2]);
+    let six = patched(&file, 2 * 16 + 2, &[6]);
     node_refused(&six, 6, At(2));
     node_refused(&patched(&six, 5 * 16 + 1, &[2]), 5, At(5));
 }
 
 #[test]
-fn refusal_6_operands_below_n_and_lower() {
+fn refusal_6_operands_below_n() {
     for record in [
-        Record::not(4),
         Record::not(5),
         Record::not(65_535),
         Record::not(260),
-    ] {
-        node_refused(&with(record), 6, At(4));
-    }
-    for record in [
-        Record::and(0, 4),
-        Record::or(4, 0),
+        Record::and(0, 5),
+        Record::or(5, 0),
         Record::same(0, 5),
-        Record::sum(1, 4),
-        Record::difference(4, 1),
-        Record::multiple(1, 4),
+        Record::sum(1, 5),
+        Record::difference(5, 1),
+        Record::multiple(1, 5),
         Record::at_most(1, 5),
-        Record::equal(4, 1),
-        Record::choice(INT, 4, 1, 3),
-        Record::choice(INT, 0, 4, 3),
-        Record::choice(INT, 0, 1, 4),
-        Record::arrow(INT, 4, 1),
-        Record::arrow(INT, 1, 4),
-        Record::arrow_pre(INT, 4, 1),
+        Record::equal(5, 1),
+        Record::choice(INT, 5, 1, 3),
+        Record::choice(INT, 0, 5, 3),
+        Record::choice(INT, 0, 1, 5),
+        Record::arrow(INT, 5, 1),
+        Record::arrow(INT, 1, 5),
+        Record::arrow_pre(INT, 5, 1),
         Record::arrow_pre(INT, 1, 5),
         Record::arrow_pre(INT, 1, 65_535),
     ] {
         node_refused(&with(record), 6, At(4));
     }
-    // b of operator 13 is not needed now: its own number or a higher will do.
-    node_accepted(&with(Record::arrow_pre(INT, 1, 4)));
-    let ahead = vec![
-        Record::input(BOOL),
-        Record::arrow_pre(BOOL, 0, 2),
-        Record::not(1),
-    ];
-    node_accepted(&NodeFile::new(ahead, 1).bytes());
+    // The lowest record, though the higher has an operand that is further off.
+    let two = vec![Record::not(2), Record::not(65_535)];
+    node_refused(&NodeFile::new(two, 0).bytes(), 6, At(0));
 }
 
 #[test]
 fn refusal_6_comes_before_7() {
-    let records = vec![Record::input(INT), Record::not(0), Record::not(2)];
+    let records = vec![Record::input(INT), Record::not(0), Record::not(3)];
     let mut file = NodeFile::new(records, 1);
     node_refused(&file.bytes(), 6, At(2));
     file.records[2] = Record::not(1);

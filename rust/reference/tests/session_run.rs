@@ -195,13 +195,14 @@ fn refusal_30_no_node() {
         record.length = length;
         refused(&mut record, &[1, 1], 6, 30, Place::File);
     }
-    // One fault for each of 2 to 8.
+    // One fault for each of 2 to 7 and 23, and below for 8.
     let trailer = 6 * 16;
     let faults = [
         (trailer, 0),
         (trailer + 4, 0),
         (trailer + 8, 0),
         (0, 14),
+        (2 * 16 + 2, 6),
         (2 * 16 + 2, 2),
         (3 * 16 + 1, 1),
     ];

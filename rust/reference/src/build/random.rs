@@ -52,8 +52,9 @@ impl Random {
     }
 }
 
-/// A node file with `size` records that passes 1 to 8; the property is a
-/// bool stream. The first record is a bool one, so that there is some.
+/// A node file with `size` records that passes 1 to 8 and 23, operands needed
+/// now lower than their records; the property is a bool stream. The first
+/// record is a bool one, so that there is some.
 pub fn node(random: &mut Random, size: usize) -> NodeFile {
     let types: Vec<u8> = (0..size)
         .map(|i| if i == 0 { BOOL } else { random.byte() & 1 })

@@ -15,7 +15,7 @@ pub fn node_refused(file: &[u8], number: u8, place: Place) {
     assert!(node::note(file).is_empty());
 }
 
-/// The node file passes 1 to 8.
+/// The node file passes 1 to 8 and 23.
 #[track_caller]
 pub fn node_accepted(file: &[u8]) {
     assert_eq!(node::read(file).err(), None);
