@@ -8,6 +8,7 @@ use crate::grow::{grow, Mix};
 use crate::nodes::{self, Taste};
 use crate::pool::Certified;
 use crate::random::Random;
+use crate::reorder::{looped, renumbering};
 use crate::{miscuts, misfactors, prove};
 use reference::build::{CertificateFile, NodeFile};
 use reference::certificate::Part;
@@ -28,12 +29,21 @@ pub enum Expected {
 
 /// The pairs of one case, with what is known of each.
 pub fn case(random: &mut Random, pool: &[Certified]) -> Vec<(Pair, Expected)> {
-    let (node, certificate, expected) = original(random, pool);
+    let (mut node, mut certificate, expected) = original(random, pool);
+    if random.once_in(3) {
+        let other = renumbering(random, &node);
+        (node, certificate) = (other.node(&node), other.certificate(&certificate));
+    }
     let pair = written(random, &node, &certificate);
     let copies = random.within(2, 7);
-    let mut pairs = Vec::with_capacity(copies + 1);
+    let mut pairs = Vec::with_capacity(copies + 3);
     if random.once_in(12) {
         pairs.push((strange(random, &pair, pool), Expected::Unknown));
+    }
+    let wrong = random.once_in(6).then(|| looped(random, &node));
+    if let Some(wrong) = wrong.flatten() {
+        let pair = written(random, &wrong.node, &certificate);
+        pairs.push((pair, Expected::Refused(23)));
     }
     for _ in 0..copies {
         pairs.push((damaged(random, &pair), Expected::Unknown));
@@ -100,6 +110,7 @@ fn proved(random: &mut Random) -> (NodeFile, CertificateFile, Expected) {
             inputs: random.of([0, 1, 2]),
             large: random.once_in(4),
             truth: false,
+            reordered: random.once_in(3),
         };
         let mut node = nodes::node(random, taste);
         let provable = prove::provable(&node, depth);

@@ -32,14 +32,17 @@ impl Said {
         }
     }
 
-    /// A checker agrees with itself: 1 to 8 are the reader's, and a refused
-    /// file has no note.
+    /// A checker agrees with itself: 1 to 8 and 23 are the reader's, 11 to 22
+    /// are not, and a refused file has no note.
     fn is_coherent(&self) -> bool {
         match (self.shape, self.verdict) {
-            (Err(refusal), verdict) => verdict == Err(refusal) && self.node_note == 0,
+            (Err(refusal), verdict) => {
+                let own = matches!(refusal.number, 1..=8 | 23);
+                own && verdict == Err(refusal) && self.node_note == 0
+            }
             (Ok(_), Err(refusal)) => {
                 let unread = (11..=14).contains(&refusal.number);
-                refusal.number > 8 && !(unread && self.certificate_note > 0)
+                (11..=22).contains(&refusal.number) && !(unread && self.certificate_note > 0)
             }
             (Ok(_), Ok(_)) => true,
         }

@@ -1,10 +1,13 @@
 //! A tiny second session: 01's table read straight off the file's bytes, in
-//! checked 128-bit arithmetic. Whether bytes are a node at all, 1 to 8, it
-//! asks another checker.
+//! checked 128-bit arithmetic. A value is worked out when it is asked for, so
+//! that no order is needed but to name the stream of 34. Whether bytes are a
+//! node at all, 1 to 8 and 23, it asks another checker.
 
 use crate::checker::{Checker, Place, Record, Refusal, Shape};
+use std::collections::BTreeSet;
 
 /// A record's bytes, 16 a stream.
+#[derive(Clone, Copy)]
 struct Row<'a>(&'a [u8]);
 
 impl Row<'_> {
@@ -26,9 +29,20 @@ impl Row<'_> {
         let bytes = self.0[8..12].try_into().expect("four bytes");
         i128::from(i32::from_le_bytes(bytes))
     }
+
+    /// The operands needed now.
+    fn needed_now(&self) -> impl Iterator<Item = usize> + '_ {
+        let count = match self.operator() {
+            0 | 1 => 0,
+            2 | 8 | 13 => 1,
+            11 => 3,
+            _ => 2,
+        };
+        (0..count).map(|which| self.operand(which))
+    }
 }
 
-/// The rows of a node file that passes 1 to 8.
+/// The rows of a node file that passes 1 to 8 and 23.
 fn rows(file: &[u8], shape: Shape) -> Vec<Row<'_>> {
     let records = &file[file.len() - 16 - 16 * shape.streams..file.len() - 16];
     records.chunks(16).map(Row).collect()
@@ -81,40 +95,86 @@ fn worked_out(
     if room != rows.len() {
         return Err(Refusal::file(32));
     }
-    let mut pairs = given.into_iter().zip(inputs.iter().copied());
+    let pairs = given.into_iter().zip(inputs.iter().copied());
     if let Some((i, _)) = pairs.clone().find(|(i, input)| !is_typed(*i, *input)) {
         return Err(Refusal::new(33, Place::Record(i)));
     }
-    let mut now: Vec<i64> = Vec::with_capacity(rows.len());
-    for (i, row) in rows.iter().enumerate() {
-        let value = match row.operator() {
-            0 => pairs.next().map(|(_, input)| i128::from(input)),
-            _ => value(row, &now, record),
-        };
-        let fitting = value.and_then(|value| i64::try_from(value).ok());
-        now.push(fitting.ok_or(Refusal::new(34, Place::Record(i)))?);
+    let mut known = vec![None; rows.len()];
+    for (i, input) in pairs {
+        known[i] = Some(Some(input));
     }
-    Ok(now)
+    let mut instant = Instant {
+        rows: &rows,
+        record,
+        known,
+    };
+    let values: Option<Vec<i64>> = (0..rows.len()).map(|i| instant.value(i)).collect();
+    values.ok_or_else(|| {
+        let mut streams = order(&rows).into_iter();
+        let first = streams.find(|i| instant.value(*i).is_none());
+        Refusal::new(34, Place::Record(first.expect("one of them")))
+    })
 }
 
-/// The value in the operator's row; nothing where 128 bits do not hold it.
-fn value(row: &Row, now: &[i64], record: &Record) -> Option<i128> {
-    let at = |which: usize| i128::from(now[row.operand(which)]);
-    let before = || i128::from(record.last[row.operand(1)]);
-    let truth = |condition: bool| Some(i128::from(condition));
-    match (row.operator(), record.answered) {
-        (1, _) => Some(row.constant()),
-        (2, _) => truth(at(0) == 0),
-        (3, _) => truth(at(0) == 1 && at(1) == 1),
-        (4, _) => truth(at(0) == 1 || at(1) == 1),
-        (5 | 10, _) => truth(at(0) == at(1)),
-        (6, _) => at(0).checked_add(at(1)),
-        (7, _) => at(0).checked_sub(at(1)),
-        (8, _) => row.constant().checked_mul(at(0)),
-        (9, _) => truth(at(0) <= at(1)),
-        (11, _) => Some(if at(2) == 1 { at(0) } else { at(1) }),
-        (_, false) => Some(at(0)),
-        (12, true) => Some(at(1)),
-        (_, true) => Some(before()),
+/// An instant being worked out.
+struct Instant<'a> {
+    rows: &'a [Row<'a>],
+    record: &'a Record,
+    /// What was asked for already, inputs from the start: a value, or none
+    /// where 64 bits do not hold it or one that it is made of.
+    known: Vec<Option<Option<i64>>>,
+}
+
+impl Instant<'_> {
+    fn value(&mut self, stream: usize) -> Option<i64> {
+        if let Some(value) = self.known[stream] {
+            return value;
+        }
+        let value = self.wide(self.rows[stream]);
+        let value = value.and_then(|value| i64::try_from(value).ok());
+        self.known[stream] = Some(value);
+        value
     }
+
+    /// The value in the operator's row.
+    fn wide(&mut self, row: Row) -> Option<i128> {
+        let record = self.record;
+        let mut at = |which: usize| self.value(row.operand(which)).map(i128::from);
+        let truth = |condition: bool| Some(i128::from(condition));
+        match (row.operator(), record.answered) {
+            (1, _) => Some(row.constant()),
+            (2, _) => truth(at(0)? == 0),
+            (3, _) => truth(at(0)? == 1 && at(1)? == 1),
+            (4, _) => truth(at(0)? == 1 || at(1)? == 1),
+            (5 | 10, _) => truth(at(0)? == at(1)?),
+            (6, _) => at(0)?.checked_add(at(1)?),
+            (7, _) => at(0)?.checked_sub(at(1)?),
+            (8, _) => row.constant().checked_mul(at(0)?),
+            (9, _) => truth(at(0)? <= at(1)?),
+            (11, _) if at(2)? == 1 => at(0),
+            (11, _) => at(1),
+            (_, false) => at(0),
+            (12, true) => at(1),
+            (_, true) => Some(i128::from(record.last[row.operand(1)])),
+        }
+    }
+}
+
+/// 02's order, by what each record still waits for: what is ready stands in a
+/// set, of which the lowest is next.
+fn order(rows: &[Row]) -> Vec<usize> {
+    let mut waits: Vec<usize> = rows.iter().map(|row| row.needed_now().count()).collect();
+    let mut ready: BTreeSet<usize> = (0..rows.len()).filter(|i| waits[*i] == 0).collect();
+    let mut order = Vec::with_capacity(rows.len());
+    while let Some(next) = ready.pop_first() {
+        order.push(next);
+        for (i, row) in rows.iter().enumerate() {
+            let met = row.needed_now().filter(|operand| *operand == next).count();
+            waits[i] -= met;
+            if met > 0 && waits[i] == 0 {
+                ready.insert(i);
+            }
+        }
+    }
+    order
 }

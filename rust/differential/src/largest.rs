@@ -53,7 +53,7 @@ impl Kind {
     }
 }
 
-/// A node of 64 streams whose property is the constant true.
+/// A node of 64 streams, in record order, whose property is the constant true.
 pub fn node(random: &mut Random, ints: usize) -> NodeFile {
     let taste = Taste {
         size: 64,
@@ -61,6 +61,7 @@ pub fn node(random: &mut Random, ints: usize) -> NodeFile {
         inputs: 3,
         large: false,
         truth: true,
+        reordered: false,
     };
     nodes::node(random, taste)
 }

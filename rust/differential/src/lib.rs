@@ -5,11 +5,12 @@
 //!
 //! * [`checker`] is what an implementation is compared by; [`by_reference`]
 //!   is `rust/reference`, [`twin`] a second path through any checker, and
-//!   `proved` (a feature) the proved library.
+//!   `proved` (a feature) the proved library; [`checkers`] has them all.
 //! * [`nodes`], [`draft`], [`grow`], [`cuts`], [`factors`], [`prove`],
-//!   [`forge`], [`pool`] and [`passes`] generate; [`damage`], [`miscuts`] and
-//!   [`misfactors`] spoil; [`cases`] mixes them. [`largest`] and [`alike`]
-//!   generate what is measured.
+//!   [`forge`], [`pool`] and [`passes`] generate; [`reorder`] puts records into
+//!   another order, or makes them lead back to themselves; [`damage`],
+//!   [`miscuts`] and [`misfactors`] spoil; [`cases`] mixes them. [`largest`]
+//!   and [`alike`] generate what is measured.
 //! * [`compare`] compares, and prints seed and bytes where two differ;
 //!   [`tally`] counts what was met.
 //!
@@ -30,6 +31,7 @@ pub mod alike;
 pub mod by_reference;
 pub mod cases;
 pub mod checker;
+pub mod checkers;
 pub mod clauses;
 pub mod compare;
 pub mod cuts;
@@ -50,5 +52,6 @@ pub mod prove;
 #[cfg(feature = "proved")]
 pub mod proved;
 pub mod random;
+pub mod reorder;
 pub mod tally;
 pub mod twin;

@@ -1,8 +1,10 @@
 //! Node files that are right by construction: 1 to 64 streams, every
-//! operator, both types, operands in place, with or without a note.
+//! operator, both types, records in any order, with or without a note.
 
 use crate::random::Random;
+use crate::reorder::renumbering;
 use reference::build::{NodeFile, Record, BOOL, INT};
+use reference::list::fields;
 
 /// How a node is drawn.
 #[derive(Clone, Copy, Debug)]
@@ -15,8 +17,11 @@ pub struct Taste {
     pub inputs: usize,
     /// Whether constants at the limits are drawn.
     pub large: bool,
-    /// Whether record 0 is true; it is then the property.
+    /// Whether the first record drawn is true; it is then the property.
     pub truth: bool,
+    /// Whether the records are put into another order in the end. Before that
+    /// an operand needed now is lower than its record.
+    pub reordered: bool,
 }
 
 impl Taste {
@@ -34,6 +39,7 @@ impl Taste {
             inputs: random.of([1, 3, 10]),
             large: random.once_in(3),
             truth: random.once_in(2),
+            reordered: random.once_in(3),
         }
     }
 }
@@ -55,7 +61,20 @@ pub fn node(random: &mut Random, taste: Taste) -> NodeFile {
     if taste.truth {
         records[0] = Record::constant(BOOL, 1);
     }
-    NodeFile::new(records, property as u16)
+    let node = NodeFile::new(records, property as u16);
+    if taste.reordered {
+        return renumbering(random, &node).node(&node);
+    }
+    node
+}
+
+/// The records of a node file that passes 1 to 4.
+pub fn records(file: &[u8]) -> Vec<Record> {
+    let (front, trailer) = file.split_at(file.len() - 16);
+    let count = usize::from(u16::from_le_bytes([trailer[4], trailer[5]]));
+    let blocks = front.as_rchunks().1;
+    let blocks = &blocks[blocks.len() - count..];
+    blocks.iter().map(fields::record).collect()
 }
 
 /// A note: none, a few bytes, or any that leave room for `length` bytes.

@@ -6,6 +6,7 @@ use crate::compare::{self, Origin};
 use crate::damage::{damage, Layout};
 use crate::nodes::{self, Taste};
 use crate::random::Random;
+use crate::reorder::{is_reordered, looped};
 use crate::tally::Tally;
 use reference::build::{NodeFile, BOOL};
 
@@ -19,17 +20,20 @@ enum Style {
 
 /// A node being run.
 #[derive(Clone, Debug)]
-struct Run {
-    node: NodeFile,
+pub struct Run {
+    /// The node.
+    pub node: NodeFile,
     style: Style,
 }
 
 impl Run {
-    fn drawn(random: &mut Random) -> Self {
+    /// A node with a way to draw its inputs.
+    pub fn drawn(random: &mut Random) -> Self {
         let mut taste = Taste::any(random);
         taste.ints = random.of([5, 8, 9]);
         taste.inputs = 10;
         taste.size = taste.size.max(random.within(1, 24));
+        taste.reordered = random.once_in(2);
         let mut node = nodes::node(random, taste);
         node.note = nodes::note(random, 1_040);
         Run {
@@ -55,7 +59,7 @@ impl Run {
     }
 
     /// One number an input, right in type.
-    fn inputs(&self, random: &mut Random) -> Vec<i64> {
+    pub fn inputs(&self, random: &mut Random) -> Vec<i64> {
         let inputs = self
             .node
             .records
@@ -98,8 +102,9 @@ pub fn pass(
     tally: &mut Tally,
 ) {
     let run = Run::drawn(random);
+    let reordered = is_reordered(&run.node.records);
     let mut record = Record::new();
-    begun(checkers, origin, random, &run, &mut record);
+    begun(checkers, origin, random, &run, &mut record, tally);
     for _ in 0..calls {
         let (inputs, mut values) = run.call(random);
         let answer = if random.once_in(16) {
@@ -108,26 +113,33 @@ pub fn pass(
         } else {
             compare::instant(checkers, origin, &mut record, &inputs, &mut values)
         };
-        tally.answer(answer);
+        tally.instant(answer, reordered);
         if random.once_in(64) {
-            begun(checkers, origin, random, &run, &mut record);
+            begun(checkers, origin, random, &run, &mut record, tally);
         }
     }
 }
 
-/// A beginning on the run's file, after one on a damaged file at times.
+/// A beginning on the run's file, after one on a damaged file at times, or on
+/// one with a loop.
 fn begun(
     checkers: &[&dyn Checker],
     origin: Origin,
     random: &mut Random,
     run: &Run,
     record: &mut Record,
+    tally: &mut Tally,
 ) {
     let file = run.node.bytes();
     if random.once_in(4) {
         let mut wrong = file.clone();
         damage(random, Layout::of_node(&file), &mut wrong);
         let _ = compare::begin(checkers, origin, record, &wrong);
+    }
+    let wrong = random.once_in(4).then(|| looped(random, &run.node));
+    if let Some(wrong) = wrong.flatten() {
+        let answer = compare::begin(checkers, origin, record, &wrong.node.bytes());
+        tally.beginning(answer.expect_err("a loop is no node"));
     }
     let answer = compare::begin(checkers, origin, record, &file);
     assert_eq!(answer, Ok(()), "{origin:?}: a right node is refused");

@@ -25,6 +25,7 @@ pub fn pool(random: &mut Random) -> Vec<Certified> {
             inputs: 3,
             large: false,
             truth: false,
+            reordered: random.once_in(3),
         };
         let node = nodes::node(random, taste);
         found.extend(certified(node, random.of([1, 1, 2, 3])));

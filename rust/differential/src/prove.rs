@@ -15,7 +15,8 @@ pub struct Known(Vec<Vec<Option<i128>>>);
 
 impl Known {
     /// What follows in this part; a step may assume a property below its
-    /// last offset.
+    /// last offset. Streams are gone through until nothing more follows, since
+    /// their records stand in any order.
     pub fn of(node: &NodeFile, part: Part, depth: u8, assumed: Option<u16>) -> Self {
         let last = match part {
             Part::Base => depth - 1,
@@ -23,19 +24,28 @@ impl Known {
         };
         let mut known = Known(Vec::new());
         for q in 0..=last {
-            known.0.push(Vec::new());
-            for (p, record) in (0u16..).zip(&node.records) {
-                let holds = part == Part::Step && q < depth && assumed == Some(p);
-                let value = if holds {
-                    Some(1)
-                } else {
-                    known.follows(record, part, q)
-                };
-                let kept = value.filter(|value| value.abs() <= MAX_BOUND);
-                known.0[usize::from(q)].push(kept);
+            let mut row = vec![None; node.records.len()];
+            if let Some(p) = assumed.filter(|_| part == Part::Step && q < depth) {
+                row[usize::from(p)] = Some(1);
             }
+            known.0.push(row);
+            while known.has_more(node, part, q) {}
         }
         known
+    }
+
+    /// Adds what follows from what is known, and says whether anything did.
+    fn has_more(&mut self, node: &NodeFile, part: Part, q: u8) -> bool {
+        let mut more = false;
+        for (p, record) in node.records.iter().enumerate() {
+            if self.0[usize::from(q)][p].is_none() {
+                let value = self.follows(record, part, q);
+                let kept = value.filter(|value| value.abs() <= MAX_BOUND);
+                self.0[usize::from(q)][p] = kept;
+                more |= kept.is_some();
+            }
+        }
+        more
     }
 
     /// The value of a stream at an offset, if it is known.

@@ -3,6 +3,8 @@
 use crate::checker::{Place, Refusal, Verdict};
 use crate::damage::lines;
 use crate::factors::multiplied;
+use crate::nodes::records;
+use crate::reorder::is_reordered;
 use std::collections::BTreeMap;
 use std::fmt;
 
@@ -10,7 +12,7 @@ use std::fmt;
 /// of line was met.
 #[derive(Clone, Debug, Default)]
 pub struct Tally {
-    /// Refusals by number; answered calls as 0.
+    /// Refusals by number, those of beginnings too; answered calls as 0.
     pub numbers: BTreeMap<u8, u64>,
     /// Accepted certificates by depth.
     pub depths: BTreeMap<u8, u64>,
@@ -19,6 +21,9 @@ pub struct Tally {
     /// Accepted certificates with an equation line whose constraint is
     /// multiplied through, by a factor of at least 2.
     pub multiplied: u64,
+    /// Accepted certificates, and answered calls, where an operand needed now
+    /// is not lower than its record.
+    pub reordered: u64,
     /// The most lines of an accepted certificate.
     pub longest: u64,
     /// The highest line refused.
@@ -28,10 +33,11 @@ pub struct Tally {
 }
 
 impl Tally {
-    /// Counts a verdict on a certificate.
-    pub fn verdict(&mut self, verdict: Verdict, certificate: &[u8]) {
+    /// Counts a verdict on a node and a certificate.
+    pub fn verdict(&mut self, verdict: Verdict, node: &[u8], certificate: &[u8]) {
         self.passed(verdict, certificate);
         if let Ok(accepted) = verdict {
+            self.reordered += u64::from(is_reordered(&records(node)));
             *self.depths.entry(accepted.depth).or_default() += 1;
             let lines = u64::from(accepted.base) + u64::from(accepted.step);
             self.longest = self.longest.max(lines);
@@ -59,6 +65,18 @@ impl Tally {
         }
     }
 
+    /// Counts the answer to an instant's call on a node that is reordered or
+    /// not.
+    pub fn instant(&mut self, answer: Result<(), Refusal>, reordered: bool) {
+        self.reordered += u64::from(answer.is_ok() && reordered);
+        self.answer(answer);
+    }
+
+    /// Counts a refused beginning, which is not one of all calls.
+    pub fn beginning(&mut self, refusal: Refusal) {
+        *self.numbers.entry(refusal.number).or_default() += 1;
+    }
+
     /// Counts an answer.
     pub fn answer(&mut self, answer: Result<(), Refusal>) {
         let number = answer.map_or_else(|refusal| refusal.number, |()| 0);
@@ -84,7 +102,9 @@ impl Tally {
 
 impl fmt::Display for Tally {
     fn fmt(&self, f: &mut fmt::Formatter<'_>) -> fmt::Result {
+        let reordered = self.reordered;
         write!(f, "{} in all, {} without refusal", self.total, self.of(0))?;
+        write!(f, " ({reordered} of them reordered)")?;
         let refused = self.numbers.iter().filter(|(number, _)| **number > 0);
         for (number, count) in refused {
             write!(f, ", {number}: {count}")?;

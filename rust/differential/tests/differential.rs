@@ -6,29 +6,21 @@
 use differential::by_reference::Reference;
 use differential::cases::{self, Expected};
 use differential::checker::{Checker, Record};
+use differential::checkers::CHECKERS;
 use differential::compare::{self, Origin};
 use differential::damage::{lines, Layout};
 use differential::draft::{Draft, MAX_BLOCKS};
 use differential::pool::{pool, Certified};
 use differential::random::Random;
+use differential::reorder::renumbering;
 use differential::tally::Tally;
-use differential::twin::Twin;
 use differential::{forge, largest, miscuts, misfactors, passes};
 use reference::build::proof::{two_bands_certificate, two_bands_node};
+use reference::build::renumber::Renumbering;
 use reference::build::{multiples, CertificateFile};
 use std::collections::BTreeMap;
 use std::sync::LazyLock;
 use std::time::Instant;
-
-/// The reference first; every other must say what it says.
-const CHECKERS: &[&dyn Checker] = &[
-    &Reference,
-    &Twin(Reference),
-    #[cfg(feature = "proved")]
-    &differential::proved::Proved,
-    #[cfg(feature = "proved")]
-    &Twin(differential::proved::Proved),
-];
 
 static POOL: LazyLock<Vec<Certified>> = LazyLock::new(|| pool(&mut Random::new(7)));
 
@@ -91,7 +83,7 @@ fn checked(
     if verdict.is_ok() && random.once_in(4) {
         holds(origin, random, &node);
     }
-    tally.verdict(verdict, &certificate);
+    tally.verdict(verdict, &node, &certificate);
 }
 
 #[test]
@@ -114,9 +106,11 @@ fn pairs() {
         "pairs, seed {seed}, {:.1} s: {tally}",
         since.elapsed().as_secs_f64()
     );
-    for number in (1..=8).chain(11..=22) {
+    for number in (1..=8).chain(11..=23) {
         assert!(tally.of(number) >= all / 2_000, "{number}: {tally}");
     }
+    assert!(tally.of(23) >= all / 50, "{tally}");
+    assert!(tally.reordered >= all / 20, "{tally}");
     for kind in 1..=5 {
         assert!(tally.of_kind(kind) >= all / 4, "kind {kind}: {tally}");
     }
@@ -150,10 +144,12 @@ fn instants() {
     for number in 30..=33 {
         assert!(tally.of(number) >= all / 200, "{number}: {tally}");
     }
+    assert!(tally.of(23) >= all / 200, "{tally}");
     assert!(
         tally.of(34) >= all / 20 && tally.of(0) >= all / 4,
         "{tally}"
     );
+    assert!(tally.reordered >= all / 10, "{tally}");
 }
 
 /// Every field of a small pair, the notes in front of it as well as not, at
@@ -172,7 +168,9 @@ fn every_field() {
         multiples::certificate(2, 7, 1, multiples::bounds(2, 7)),
     );
     let multiplied = multiplied(counter);
-    for (node, certificate) in [&two_bands, counter, &by_cuts, &multiplied] {
+    let reversed = [&two_bands, counter].map(reversed);
+    let [bands, count] = &reversed;
+    for (node, certificate) in [&two_bands, counter, &by_cuts, &multiplied, bands, count] {
         let (node, certificate) = (node.bytes(), certificate.bytes());
         let layout = Layout::of_node(&node);
         for wrong in each_value(layout, &node) {
@@ -187,6 +185,7 @@ fn every_field() {
     }
     println!("every field: {tally}");
     assert!(tally.of(22) >= 50, "{tally}");
+    assert!(tally.of(23) >= 50 && tally.reordered >= 50, "{tally}");
     assert!(tally.multiplied >= 50, "{tally}");
 }
 
@@ -199,6 +198,12 @@ fn multiplied((node, certificate): &Certified) -> Certified {
     draft.begin_step();
     draft.import(certificate, step, base.len()).expect("room");
     (node.clone(), draft.finish())
+}
+
+/// The same with the last record first.
+fn reversed((node, certificate): &Certified) -> Certified {
+    let other = Renumbering::reversed(node.records.len() as u16);
+    (other.node(node), other.certificate(certificate))
 }
 
 /// The file with each value in each field of each block.
@@ -243,7 +248,11 @@ fn forged_arguments() {
     for case in 0..4_000 {
         let origin = Origin { seed: 5, case };
         let mut random = Random::of_case(5, case);
-        let (node, certificate, number) = forge::forgery(&mut random);
+        let (mut node, mut certificate, number) = forge::forgery(&mut random);
+        if case % 2 == 1 {
+            let other = renumbering(&mut random, &node);
+            (node, certificate) = (other.node(&node), other.certificate(&certificate));
+        }
         let pair = (
             (node.bytes(), certificate.bytes()),
             Expected::Refused(number),
@@ -321,7 +330,10 @@ fn largest_files() {
     let kinds = [&largest::KINDS[..], &[largest::CUTS, largest::OF_INTS]].concat();
     for case in 0..72 {
         let kind = kinds[case % 6];
-        let node = largest::node(&mut random, kind.ints);
+        let mut node = largest::node(&mut random, kind.ints);
+        if case / 6 % 2 == 1 {
+            node = renumbering(&mut random, &node).node(&node);
+        }
         let depth = 1 + (case / 6 % 8) as u8;
         let mut certificate = largest::certificate(&mut random, &node, depth, kind, MAX_BLOCKS);
         if case % 6 == 5 {
@@ -345,6 +357,7 @@ fn largest_files() {
     println!("largest: {tally}");
     assert_eq!(tally.longest, MAX_BLOCKS as u64);
     assert!(tally.multiplied >= 12, "{tally}");
+    assert!(tally.reordered >= 30, "{tally}");
 }
 
 /// What a line of kind 1 is of: part, whether at offset 0, operator, type and
