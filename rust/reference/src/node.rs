@@ -354,9 +354,13 @@ impl Fields {
     /// The streams that a record needs now, one bit a stream. It passed 6: they
     /// are below 64.
     fn needed_now(&self) -> u64 {
-        let uses = self.row().into_iter().flat_map(|row| self.uses(row));
-        let now = uses.filter(|(operand, _)| matches!(operand, Operand::Now(_)));
-        now.fold(0, |needed, (_, stream)| needed | 1 << stream)
+        let Some(row) = self.row() else {
+            return 0;
+        };
+        self.uses(row).fold(0, |needed, read| match read {
+            (Operand::Now(_), stream) => needed | 1 << stream,
+            _ => needed,
+        })
     }
 
     /// Refusal 7: "type byte or operand type not the operator's".

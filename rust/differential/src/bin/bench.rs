@@ -1,8 +1,9 @@
 //! Times of each checker on the same input in the same run: verdicts on large
 //! and small certificates, instants of a node of 64 streams, cuts beside
-//! arithmetic lines, and equation lines with multiplied constraints beside
-//! the same lines without. These are last: a library from before 02's S-2
-//! refuses them.
+//! arithmetic lines, equation lines with multiplied constraints beside the same
+//! lines without, and instants of the same node in other orders. The last two
+//! are in the order of the requests: a library from before 02's S-2 or S-3
+//! refuses what it does not know, and the run ends there.
 //!
 //! `cargo run --offline --release --bin bench`; with
 //! `--no-default-features` the reference alone. The checkers take turns in
@@ -15,7 +16,8 @@ use differential::checker::{Checker, Record};
 use differential::draft::MAX_BLOCKS;
 use differential::largest;
 use differential::random::Random;
-use reference::build::{CertificateFile, Line, NodeFile};
+use reference::build::renumber::Renumbering;
+use reference::build::{CertificateFile, Line, NodeFile, BOOL};
 use std::hint::black_box;
 use std::time::Instant;
 
@@ -261,12 +263,31 @@ fn reading(random: &mut Random) {
 }
 
 /// A pass of a node of 64 streams.
-fn instants(random: &mut Random) {
-    let (node, inputs) = lasting(random);
+fn instants(what: &str, node: &NodeFile, inputs: &[i64]) {
     let file = node.bytes();
-    measure("200 instants of 64 streams", INSTANTS, &|checker| {
-        black_box(answered(checker, black_box(&file), black_box(&inputs)));
+    let all = |by: &&dyn Checker| answered(*by, &file, inputs) == INSTANTS;
+    assert!(CHECKERS.iter().all(all), "{what}");
+    measure(what, INSTANTS, &|checker| {
+        black_box(answered(checker, black_box(&file), black_box(inputs)));
     });
+}
+
+/// The same pass with the last record first, and with the property first, a
+/// stream that came late. The inputs are all the same number.
+fn orders(node: &NodeFile, inputs: &[i64]) {
+    let size = node.records.len() as u16;
+    let numbered = (0..size).zip(&node.records);
+    let bools = numbered.filter(|(_, record)| record.type_byte == BOOL);
+    let late = bools.map(|(stream, _)| stream).max().unwrap_or(0);
+    for (what, other) in [
+        ("last record first", Renumbering::reversed(size)),
+        ("property first", Renumbering::first(late, size)),
+    ] {
+        let what = format!("200 instants, {what}");
+        let mut node = node.clone();
+        node.property = late;
+        instants(&what, &other.node(&node), inputs);
+    }
 }
 
 /// A node of 64 streams with inputs on which every instant is answered.
@@ -297,7 +318,9 @@ fn main() {
     let mut random = Random::new(1);
     reading(&mut random);
     verdicts(&mut random);
-    instants(&mut random);
+    let (node, inputs) = lasting(&mut random);
+    instants("200 instants of 64 streams", &node, &inputs);
     cuts(&mut random);
     factors(&mut random);
+    orders(&node, &inputs);
 }
