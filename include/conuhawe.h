@@ -38,13 +38,14 @@ enum {
 enum {
     CONUHAWE_ACCEPTED = 0,
 
-    /* node file; places: file for 1 to 4, record for 5 to 8 */
+    /* node file; places: file for 1 to 4, record for 5 to 8 and 23 */
     CONUHAWE_NODE_LENGTH = 1,
     CONUHAWE_NODE_FIXED_BYTES = 2,
     CONUHAWE_NODE_COUNTS = 3,
     CONUHAWE_NODE_DISTANCE = 4,
     CONUHAWE_RECORD_SHAPE = 5,
-    CONUHAWE_RECORD_OPERANDS = 6,
+    CONUHAWE_RECORD_OPERANDS = 6, /* an operand not below the stream count; it need not be lower than its record */
+    CONUHAWE_NO_ORDER = 23,       /* after 6 and before 7: operands needed now lead back to their record */
     CONUHAWE_RECORD_TYPES = 7,
     CONUHAWE_PROPERTY_TYPE = 8,
 
@@ -67,7 +68,7 @@ enum {
     CONUHAWE_INPUT_COUNT = 31,
     CONUHAWE_SLICE_LENGTH = 32,
     CONUHAWE_BOOL_INPUT = 33,
-    CONUHAWE_OUTSIDE_RANGE = 34
+    CONUHAWE_OUTSIDE_RANGE = 34 /* at the first such stream in the worked-out order */
 };
 
 /* An answer. Of a refusal all values are 0; of an accepted answer place and index are 0. */
@@ -89,10 +90,13 @@ typedef struct conuhawe_session {
     uint8_t spare[7];   /* not read; 0 after an accepted call */
 } conuhawe_session;
 
-/* Checks a node file by rules 1 to 8. Accepted: value[0] is the stream count and value[1] the property stream. */
+/* Checks a node file by rules 1 to 8 and 23. Accepted: value[0] is the stream count and value[1] the property stream.
+ *
+ * Records may stand in any order. The worked-out order has each time the lowest record whose operands needed now are all placed; all
+ * operands are needed now, except b of operator 13. The index of 23 is the lowest record never placed. */
 conuhawe_answer conuhawe_read(const uint8_t *node, size_t node_length);
 
-/* Checks a certificate for a node file: rules 1 to 8 for the node, then 11 to 22. Accepted: value[0] is the depth, value[1] and
+/* Checks a certificate for a node file: rules 1 to 8 and 23 for the node, then 11 to 22. Accepted: value[0] is the depth, value[1] and
  * value[2] are the trailer's counts of base lines and step lines, and the node's property holds at every instant on all inputs. */
 conuhawe_answer conuhawe_check(const uint8_t *node, size_t node_length, const uint8_t *certificate, size_t certificate_length);
 
@@ -106,7 +110,7 @@ conuhawe_answer conuhawe_begin(conuhawe_session *session, const uint8_t *node, s
 conuhawe_answer conuhawe_instant(conuhawe_session *session, const int64_t *inputs, size_t input_count, int64_t *values,
                                  size_t value_count);
 
-/* How many leading bytes of a node file are its note; 0 where rules 1 to 8 refuse the file. Never more than its length. */
+/* How many leading bytes of a node file are its note; 0 where one of rules 1 to 8 and 23 refuses the file. Never more than its length. */
 size_t conuhawe_node_note(const uint8_t *node, size_t node_length);
 
 /* How many leading bytes of a certificate are its note; 0 where rules 11 to 14 refuse the file. Never more than its length. */

@@ -140,6 +140,58 @@ static void check_session(file node)
     free(s);
 }
 
+/* The two bands with their last record first, so that the property is 0 and the inputs are 4 and 5. */
+static file reversed(file node)
+{
+    static const uint8_t records[6][16] = {
+        {2, 0, 1},       /* not 1 */
+        {3, 0, 5, 0, 2}, /* 5 and 2 */
+        {3, 0, 4, 0, 3}, /* 4 and 3 */
+        {2, 0, 5},       /* not 5 */
+    };
+    memcpy(node.bytes, records, sizeof records);
+    node.bytes[node.length - 10] = 0;
+    return node;
+}
+
+/* Records in an order in which operands needed now come later, and in none. */
+static void check_orders(file node, file cert)
+{
+    static const int64_t inputs[2][2] = {{1, 1}, {1, 0}};
+    static const int64_t wanted[2][6] = {{1, 0, 0, 0, 1, 1}, {1, 0, 1, 1, 1, 0}};
+    node = reversed(node);
+    uint8_t *n = block(node, 3), *c = block(cert, 0);
+    size_t length = 3 + node.length;
+    conuhawe_session *s = calloc(1, sizeof *s);
+    if (!s)
+        exit(1);
+    expect("read reversed", conuhawe_read(n, length), 0, 0, 0, 6, 0, 0);
+    expect_true("its note", conuhawe_node_note(n, length) == 3);
+    expect("begin reversed", conuhawe_begin(s, n, length), 0, 0, 0, 6, 0, 0);
+    for (int t = 0; t < 2; t++) {
+        int64_t values[6] = {-1, -2, -3, -4, -5, -6};
+        expect("instant reversed", conuhawe_instant(s, inputs[t], 2, values, 6), 0, 0, 0, 0, 0, 0);
+        expect_true("values reversed", memcmp(values, wanted[t], sizeof values) == 0);
+    }
+    expect("another's certificate", conuhawe_check(n, length, c, cert.length), CONUHAWE_PROPERTY_LINE, CONUHAWE_LINE, 0, 0, 0, 0);
+
+    /* 3 becomes not 1: 1, 2 and 3 lead back to themselves, and 0 waits for them */
+    conuhawe_session before = *s;
+    n[3 + 16 * 3 + 2] = 1;
+    expect("a loop", conuhawe_read(n, length), CONUHAWE_NO_ORDER, CONUHAWE_RECORD, 0, 0, 0, 0);
+    expect("check a loop", conuhawe_check(n, length, c, cert.length), CONUHAWE_NO_ORDER, CONUHAWE_RECORD, 0, 0, 0, 0);
+    expect("begin on a loop", conuhawe_begin(s, n, length), CONUHAWE_NO_ORDER, CONUHAWE_RECORD, 0, 0, 0, 0);
+    expect_true("a loop leaves the record", memcmp(&before, s, sizeof before) == 0);
+    expect_true("a loop's note", conuhawe_node_note(n, length) == 0);
+    n[3 + 2] = 4;
+    expect("a loop, not waited for", conuhawe_read(n, length), CONUHAWE_NO_ORDER, CONUHAWE_RECORD, 1, 0, 0, 0);
+    s->file[16 * 3 + 2] = 1;
+    refuses("a loop in the record", s, inputs[0], 2, 6, CONUHAWE_NO_NODE, CONUHAWE_FILE, 0);
+    free(n);
+    free(c);
+    free(s);
+}
+
 int main(int argc, char **argv)
 {
     if (argc != 3) {
@@ -150,6 +202,7 @@ int main(int argc, char **argv)
     check_files(node, cert);
     check_notes(node, cert);
     check_session(node);
+    check_orders(node, cert);
     printf("%s\n", failures ? "failed" : "ok");
     return failures != 0;
 }

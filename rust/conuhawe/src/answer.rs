@@ -36,8 +36,8 @@ impl fmt::Display for Place {
 
 /// A refusal: the number of the first rule that is broken, and where.
 ///
-/// 1 to 8 are of a node file, 11 to 22 of a certificate, 30 to 34 of an
-/// instant's call. It prints as `refused 19 line 4`.
+/// 1 to 8 and 23 are of a node file, 11 to 22 of a certificate, 30 to 34 of
+/// an instant's call. It prints as `refused 19 line 4`.
 #[derive(Clone, Copy, Debug, PartialEq, Eq, Hash)]
 pub struct Refusal {
     /// The rule's number.

@@ -8,9 +8,14 @@ use crate::{Accepted, Node, Refusal};
 
 /// Checks a node file.
 ///
+/// Records may stand in any order. The worked-out order has each time the
+/// lowest record whose operands needed now are all placed; all operands are
+/// needed now, except b of operator 13. 23 names the lowest record never
+/// placed.
+///
 /// # Errors
 ///
-/// The first of rules 1 to 8 that is broken.
+/// The first of rules 1 to 8 and 23 that is broken; 23 comes after 6.
 pub fn read(node: &[u8]) -> Result<Node, Refusal> {
     // SAFETY: as above.
     unsafe { sys::conuhawe_read(node.as_ptr(), node.len()) }.node()
@@ -21,7 +26,8 @@ pub fn read(node: &[u8]) -> Result<Node, Refusal> {
 ///
 /// # Errors
 ///
-/// The first rule that is broken: of 1 to 8 for the node, then of 11 to 22.
+/// The first rule that is broken: of 1 to 8 and 23 for the node, then of 11 to
+/// 22.
 pub fn check(node: &[u8], certificate: &[u8]) -> Result<Accepted, Refusal> {
     // SAFETY: as above.
     unsafe {
@@ -36,7 +42,7 @@ pub fn check(node: &[u8], certificate: &[u8]) -> Result<Accepted, Refusal> {
 }
 
 /// The note of a node file: the bytes before its first record. Empty where
-/// rules 1 to 8 refuse the file.
+/// one of rules 1 to 8 and 23 refuses the file.
 pub fn node_note(node: &[u8]) -> &[u8] {
     // SAFETY: as above.
     let length = unsafe { sys::conuhawe_node_note(node.as_ptr(), node.len()) };

@@ -43,7 +43,8 @@ impl Session {
     /// # Errors
     ///
     /// The first of 30 to 34 that is broken; the session and `values` are
-    /// left as they were.
+    /// left as they were. 34 names the first stream in the worked-out order of
+    /// [`read`](crate::read).
     pub fn instant(&mut self, inputs: &[i64], values: &mut [i64]) -> Result<(), Refusal> {
         // SAFETY: as above, for two slices; the borrows say that nothing
         // written overlaps anything else.

@@ -6,7 +6,8 @@ mod common;
 use common::two_bands;
 use conuhawe::Session;
 use reference::build::random::{self, damage, Random};
-use reference::build::{multiples, orders, search, BOOL, INT};
+use reference::build::renumber::Renumbering;
+use reference::build::{multiples, orders, search, NodeFile, BOOL, INT};
 use reference::node::{self, Type};
 use reference::{certificate, session};
 use std::collections::BTreeSet;
@@ -30,21 +31,29 @@ fn either_order(factors: [i64; 2]) -> Pair {
     (orders::node().bytes(), orders::certificate(factors).bytes())
 }
 
+/// A node's records in some order.
+fn another_order(random: &mut Random, node: &NodeFile) -> Renumbering {
+    let count = u16::try_from(node.records.len()).unwrap();
+    Renumbering::random(random, count)
+}
+
 /// The two bands, nodes proved by cuts, one by multiplied constraints, and
-/// random nodes that have a certificate.
+/// random nodes that have a certificate, in record order and in another.
 fn seeds(random: &mut Random) -> Vec<Pair> {
     let mut pairs = vec![two_bands()];
     let cuts = [(2, 7), (2, -7), (65_535, 1), (1_000, -999_999_999)];
     pairs.extend(cuts.map(|(m, k)| never(m, k)));
     pairs.extend([[2, 2], [2, 3], [1_000_000_000; 2]].map(either_order));
     for i in 0..300 {
-        let node = random::node(random, 3 + i % 9).bytes();
+        let node = random::node(random, 3 + i % 9);
         let depth = [1, 1, 2, 3][random.below(4)];
-        if let Some(found) = search::certificate(&node, depth) {
-            pairs.push((node, found.bytes()));
+        if let Some(found) = search::certificate(&node.bytes(), depth) {
+            let other = another_order(random, &node);
+            pairs.push((node.bytes(), found.bytes()));
+            pairs.push((other.node(&node).bytes(), other.certificate(&found).bytes()));
         }
     }
-    assert!(pairs.len() > 50);
+    assert!(pairs.len() > 100);
     pairs
 }
 
@@ -85,7 +94,7 @@ fn damaged_pairs() {
         let answer = agreed(&(node, certificate));
         met.extend(answer.split(' ').nth(1).map(str::to_owned));
     }
-    for number in (1..=8).chain(11..=22) {
+    for number in (1..=8).chain(11..=23) {
         assert!(met.contains(&number.to_string()), "{number} of {met:?}");
     }
 }
@@ -111,7 +120,11 @@ fn sessions() {
     let mut random = Random::new(73);
     let mut met = BTreeSet::new();
     for i in 0..4_000 {
-        let file = random::node(&mut random, 3 + i % 62).bytes();
+        let mut node = random::node(&mut random, 3 + i % 62);
+        if i % 2 == 1 {
+            node = another_order(&mut random, &node).node(&node);
+        }
+        let file = node.bytes();
         let node = node::read(&file).unwrap();
         let mut theirs = session::Record::new();
         session::begin(&mut theirs, &file).unwrap();
