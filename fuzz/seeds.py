@@ -1,5 +1,6 @@
 #!/usr/bin/env python3
-"""Writes the seeds of both targets: seeds.py FOLDER. From the examples, crates/check_pairs, and sessions at the ends of 64 bits."""
+"""Writes the seeds of both targets: seeds.py FOLDER. From the examples, crates/check_pairs, nodes in another order and with loops, and
+sessions at the ends of 64 bits."""
 import itertools
 import pathlib
 import struct
@@ -7,19 +8,42 @@ import sys
 
 ROOT = pathlib.Path(__file__).resolve().parent.parent
 sys.path.insert(0, str(ROOT / "tools"))
-from node_files import BOOL, INT, node as node_file, rec
+from node_files import ALL, BOOL, INT, TWO_BANDS, node as node_file, rec, replaced
 
 DATA = ROOT / "crates" / "check_pairs" / "data"
 RECORD_FILE = 1040
 NATURAL = 128
 ENDS = [-2**63, -2**62, -1, 0, 1, 2**62, 2**63 - 1]
+# how many operands each operator reads
+READS = [0, 0, 1, 2, 2, 2, 2, 2, 1, 2, 2, 3, 2, 2]
 
 
 def content(path):
     return path.read_bytes() if path.is_file() else b""
 
 
+def with_operands(record, change):
+    """The record with each operand that it reads changed."""
+    op, kind, a, b, c, k, rest = struct.unpack("<BBHHHiI", record)
+    operands = [change(j, x) if j < READS[op] else x for j, x in enumerate((a, b, c))]
+    return rec(op, kind, *operands, k, rest)
+
+
+def orders():
+    """Nodes with the last record first, and each with an operand that is its own record: a loop, but for b of operator 13."""
+    for name, records, prop in [("two-bands", TWO_BANDS, 5), ("all", ALL, 15)]:
+        last = len(records) - 1
+        there = [with_operands(r, lambda _, x: last - x) for r in reversed(records)]
+        yield f"{name}-reversed", node_file(there, last - prop)
+        for i, r in enumerate(there):
+            for which in range(READS[r[0]]):
+                wrong = with_operands(r, lambda j, x: i if j == which else x)
+                yield f"{name}-own-{i}-{which}", node_file(replaced(there, i, wrong), last - prop)
+
+
 def pairs():
+    for name, node in orders():
+        yield name, node, b""
     for folder in sorted(p for p in (ROOT / "examples").iterdir() if p.is_dir()):
         yield folder.name, content(folder / "node.bin"), content(folder / "cert.bin")
     names = (DATA.parent / "args").read_text().splitlines()

@@ -45,7 +45,7 @@ static inline int place_fits(size_t number, size_t place)
         return place == CONUHAWE_NO_PLACE;
     if (number <= 4 || (number >= 11 && number <= 14) || (number >= 30 && number <= 32))
         return place == CONUHAWE_FILE;
-    if (number <= 8 || number == 33 || number == 34)
+    if (number <= 8 || number == 23 || number == 33 || number == 34)
         return place == CONUHAWE_RECORD;
     if (number == 15)
         return place == CONUHAWE_CONSTRAINT;
@@ -70,12 +70,36 @@ static inline void check_shape(conuhawe_answer a, size_t streams, size_t constra
         CHECK(a.value[0] == 0 && a.value[1] == 0 && a.value[2] == 0);
 }
 
-/* What holds of an answer on a node file. The trailer may be read where the file is past 1 to 3. */
+/* The lowest record from which operands needed now lead on without end, the stream count where there is none: a second reading of
+ * records that pass 5 and 6. */
+static inline size_t lowest_endless(const uint8_t *records, size_t streams)
+{
+    static const uint8_t needed_now[14] = {0, 0, 1, 2, 2, 2, 2, 2, 1, 2, 2, 3, 2, 1};
+    uint8_t ends[64] = {0};
+    for (size_t round = 0; round < streams; round++)
+        for (size_t i = 0; i < streams; i++) {
+            const uint8_t *r = records + 16 * i;
+            uint8_t all = 1;
+            for (size_t j = 0; j < needed_now[r[0]]; j++)
+                all &= ends[u16_at(r + 2 + 2 * j)];
+            ends[i] = all;
+        }
+    size_t i = 0;
+    while (i < streams && ends[i])
+        i++;
+    return i;
+}
+
+/* What holds of an answer on a node file. The trailer may be read where the file is past 1 to 3, the records where it is past 6. */
 static inline void check_node_answer(conuhawe_answer a, const uint8_t *node, size_t length)
 {
-    CHECK(a.number <= 8);
+    CHECK(a.number <= 8 || a.number == 23);
     size_t streams = a.number == 0 || a.number > 3 ? u16_at(node + length - 12) : 0;
     check_shape(a, streams, 0, 0);
+    if (a.number == 0 || a.number > 6) {
+        size_t lowest = lowest_endless(node + length - 16 - 16 * streams, streams);
+        CHECK((a.number == 23) == (lowest < streams) && (a.number != 23 || a.index == lowest));
+    }
     if (a.number != 0)
         return;
     CHECK(streams >= 1 && streams <= 64 && 16 + 16 * streams <= length);
