@@ -6,7 +6,8 @@
 Each case gives a file and its verdict line, written down from the published rules and not computed by any reader. The files
 go to crates/check_node/data, their names to args and the lines to stdout beside it.
 """
-from node_files import ALL, BOOL, INPUT, INT, TWO_BANDS, node, rec, replaced, trailer, write_data, write_lines
+from node_files import (ALL, BOOL, INPUT, INT, PROPERTY_FIRST, TWO_BANDS, node, rec, reordered, replaced, trailer, write_data,
+                        write_lines)
 
 CASES = []
 
@@ -25,7 +26,15 @@ def refused(name, data, number, place):
 
 
 CHAIN = [INPUT] + [rec(2, BOOL, i) for i in range(63)]
+# 0 = not 1, 1 = not 2 and on to 63, an input
+REVERSED_CHAIN = [rec(2, BOOL, i + 1) for i in range(63)] + [INPUT]
+NUMBER = rec(0, INT)
 LIMIT = 1_000_000_000
+
+
+def shuffled(chain):
+    """Stream i of 64 as record 29 i + 7, modulo 64: record r is stream 53 (r - 7), and 63 is record 42."""
+    return reordered(chain, [53 * (r - 7) % 64 for r in range(64)])
 
 
 def valid():
@@ -42,6 +51,120 @@ def valid():
         [rec(1, BOOL, k=0), rec(1, BOOL, k=1), rec(1, INT, k=LIMIT), rec(1, INT, k=-LIMIT), rec(8, INT, 2, k=LIMIT),
          rec(8, INT, 2, k=-LIMIT), rec(8, INT, 2, k=0)], 1), 7, 1, 0)
     accepted("pre-of-itself-at-record-1.bin", node([INPUT, rec(13, BOOL, 0, 1)], 1), 2, 1, 1)
+
+
+def in_any_order():
+    """An operand needed now may have any number below n."""
+    accepted("property-first.bin", node(PROPERTY_FIRST, 0), 6, 0, 2)
+    accepted("property-first-with-note.bin", node(PROPERTY_FIRST, 0, b"as people write it"), 6, 0, 2, 18)
+    accepted("two-bands-reversed.bin", node(
+        [rec(2, BOOL, 1), rec(3, BOOL, 5, 2), rec(3, BOOL, 4, 3), rec(2, BOOL, 5), INPUT, INPUT], 0), 6, 0, 2)
+    # 17 becomes 2
+    accepted("all-operators-reversed.bin", node(reordered(ALL, range(19, -1, -1)), 2), 20, 2, 2)
+    accepted("all-operators-reversed-with-note.bin", node(reordered(ALL, range(19, -1, -1)), 19, b"\xff"), 20, 19, 2, 1)
+    accepted("sixty-four-streams-reversed.bin", node(REVERSED_CHAIN, 0), 64, 0, 1)
+    accepted("sixty-four-streams-shuffled.bin", node(shuffled(CHAIN), 42), 64, 42, 1)
+    # every stream but the last reads the last twice
+    accepted("sixty-three-read-the-last.bin", node([rec(5, BOOL, 63, 63)] * 63 + [INPUT], 62), 64, 62, 1)
+    accepted("operand-is-n-minus-1.bin", node([rec(2, BOOL, 1), INPUT], 0), 2, 0, 1)
+    accepted("operand-63-of-64.bin", node([rec(2, BOOL, 63)] + [INPUT] * 63, 0), 64, 0, 63)
+    accepted("operand-b-later.bin", node([INPUT, rec(3, BOOL, 0, 2), INPUT], 1), 3, 1, 2)
+    accepted("condition-later.bin", node([INPUT, rec(11, BOOL, 0, 0, 2), INPUT], 0), 3, 0, 2)
+    accepted("if-of-three-later.bin", node([rec(11, BOOL, 1, 2, 3), INPUT, rec(2, BOOL, 3), INPUT], 0), 4, 0, 2)
+    accepted("arrow-of-later.bin", node([rec(12, BOOL, 2, 1), rec(2, BOOL, 2), INPUT], 1), 3, 1, 1)
+    accepted("ints-of-later.bin", node(
+        [rec(9, BOOL, 1, 2), rec(6, INT, 2, 4), rec(7, INT, 3, 4), rec(8, INT, 4, k=2), rec(0, INT)], 0), 5, 0, 1)
+
+    # what 13 reads of one instant before is no part of the order
+    accepted("pre-of-itself-at-record-0.bin", node([rec(13, BOOL, 1, 0), INPUT], 0), 2, 0, 1)
+    accepted("pre-of-later.bin", node([INPUT, rec(13, BOOL, 0, 2), rec(2, BOOL, 0)], 1), 3, 1, 1)
+    accepted("loop-closed-by-pre.bin", node([rec(2, BOOL, 1), rec(13, BOOL, 2, 0), rec(1, BOOL)], 0), 3, 0, 0)
+    accepted("loop-of-two-pres.bin", node([rec(13, BOOL, 2, 1), rec(13, BOOL, 2, 0), INPUT], 1), 3, 1, 1)
+    accepted("loop-of-63-closed-by-pre.bin", node(replaced(CHAIN, 1, rec(13, BOOL, 0, 63)), 63), 64, 63, 1)
+
+
+def through(first, op, kind, a, b=0, c=0, back=None):
+    """The operator at record 1 after a first record; what it reads at 2 reads it back."""
+    k = 2 if op == 8 else 0
+    return node([first, rec(op, kind, a, b, c, k), back or rec(2, BOOL, 1), rec(1, BOOL, k=1)], 3)
+
+
+def of_loops():
+    """Operands needed now that lead back to their record: no order has it, nor what waits for it."""
+    refused("23-first-reads-itself.bin", node([rec(2, BOOL, 0)], 0), 23, "record 0")
+    refused("23-middle-reads-itself.bin", node(replaced(TWO_BANDS, 3, rec(3, BOOL, 1, 3)), 5), 23, "record 3")
+    refused("23-last-reads-itself.bin", node(replaced(CHAIN, 63, rec(2, BOOL, 63)), 0), 23, "record 63")
+    refused("23-loop-of-2.bin", node([INPUT, rec(2, BOOL, 2), rec(2, BOOL, 1)], 0), 23, "record 1")
+    refused("23-loop-of-2-by-operand-b.bin", node(replaced(TWO_BANDS, 3, rec(3, BOOL, 1, 4)), 5), 23, "record 3")
+    refused("23-loop-of-3.bin", node([rec(2, BOOL, 1), rec(2, BOOL, 2), rec(2, BOOL, 0)], 0), 23, "record 0")
+    refused("23-loop-of-3-falling.bin", node([INPUT, rec(2, BOOL, 3), rec(2, BOOL, 1), rec(2, BOOL, 2)], 0), 23, "record 1")
+    refused("23-loop-of-64.bin", node(replaced(REVERSED_CHAIN, 63, rec(2, BOOL, 0)), 0), 23, "record 0")
+    refused("23-loop-of-64-falling.bin", node(replaced(CHAIN, 0, rec(2, BOOL, 63)), 0), 23, "record 0")
+    refused("23-loop-of-64-shuffled.bin", node(shuffled(replaced(CHAIN, 0, rec(2, BOOL, 63))), 42), 23, "record 0")
+    refused("23-last-two-of-64.bin", node(replaced(CHAIN, 62, rec(2, BOOL, 63)), 0), 23, "record 62")
+    refused("23-loop-with-note.bin", node([rec(2, BOOL, 0)], 0, b"a note"), 23, "record 0")
+
+    # through each operand of each operator that needs it now
+    refused("23-through-not.bin", through(INPUT, 2, BOOL, 2), 23, "record 1")
+    refused("23-through-multiple.bin", through(NUMBER, 8, INT, 2, back=rec(8, INT, 1, k=3)), 23, "record 1")
+    for name, op in (("and", 3), ("or", 4), ("same", 5), ("arrow", 12)):
+        refused(f"23-through-{name}-a.bin", through(INPUT, op, BOOL, 2, 0), 23, "record 1")
+        refused(f"23-through-{name}-b.bin", through(INPUT, op, BOOL, 0, 2), 23, "record 1")
+    for name, op in (("sum", 6), ("difference", 7), ("arrow-int", 12)):
+        refused(f"23-through-{name}-a.bin", through(NUMBER, op, INT, 2, 0, back=rec(8, INT, 1, k=1)), 23, "record 1")
+        refused(f"23-through-{name}-b.bin", through(NUMBER, op, INT, 0, 2, back=rec(8, INT, 1, k=1)), 23, "record 1")
+    for name, op in (("at-most", 9), ("equal", 10)):
+        refused(f"23-through-{name}-a.bin", through(NUMBER, op, BOOL, 2, 0, back=rec(11, INT, 0, 0, 1)), 23, "record 1")
+        refused(f"23-through-{name}-b.bin", through(NUMBER, op, BOOL, 0, 2, back=rec(11, INT, 0, 0, 1)), 23, "record 1")
+    refused("23-through-if-a.bin", through(INPUT, 11, BOOL, 2, 0, 0), 23, "record 1")
+    refused("23-through-if-b.bin", through(INPUT, 11, BOOL, 0, 2, 0), 23, "record 1")
+    refused("23-through-if-c.bin", through(INPUT, 11, BOOL, 0, 0, 2), 23, "record 1")
+    # the branch that is never taken
+    refused("23-through-if-a-untaken.bin", through(rec(1, BOOL, k=0), 11, BOOL, 2, 0, 0), 23, "record 1")
+    refused("23-through-if-b-untaken.bin", through(rec(1, BOOL, k=1), 11, BOOL, 0, 2, 0), 23, "record 1")
+    # and operands whose value never matters
+    refused("23-0-times-itself.bin", node([INPUT, rec(8, INT, 1, k=0)], 0), 23, "record 1")
+    refused("23-if-same-branches-of-itself.bin", node([INPUT, rec(11, BOOL, 0, 0, 1)], 0), 23, "record 1")
+    refused("23-through-pre-a.bin", through(INPUT, 13, BOOL, 2, 0), 23, "record 1")
+    refused("23-through-pre-a-int.bin", through(NUMBER, 13, INT, 2, 0, back=rec(8, INT, 1, k=1)), 23, "record 1")
+    refused("23-first-value-of-pre-itself.bin", node([INPUT, rec(13, BOOL, 1, 0)], 0), 23, "record 1")
+    refused("23-pre-of-itself-alone.bin", node([rec(13, BOOL, 0, 0)], 0), 23, "record 0")
+    refused("23-later-value-of-arrow-itself.bin", node([INPUT, rec(12, BOOL, 0, 1)], 0), 23, "record 1")
+    refused("23-first-value-of-arrow-itself.bin", node([INPUT, rec(12, BOOL, 1, 0)], 0), 23, "record 1")
+    accepted("through-pre-b.bin", through(INPUT, 13, BOOL, 0, 2), 4, 3, 1)
+    accepted("through-pre-b-int.bin", through(NUMBER, 13, INT, 0, 2, back=rec(8, INT, 1, k=1)), 4, 3, 1)
+
+
+def of_waiting():
+    """23 names the lowest record never placed, in a loop or waiting for one."""
+    loop = [rec(2, BOOL, 3), rec(2, BOOL, 2)]
+    refused("23-lowest-waits.bin", node([rec(2, BOOL, 2), INPUT] + loop, 1), 23, "record 0")
+    refused("23-lowest-waits-after-placed.bin", node([INPUT, rec(2, BOOL, 2)] + loop, 0), 23, "record 1")
+    refused("23-placed-before-and-after.bin", node([INPUT, rec(2, BOOL, 0)] + loop + [rec(2, BOOL, 1)], 0), 23, "record 2")
+    # 0 = not 4 is placed after 4
+    refused("23-placed-by-later.bin", node([rec(2, BOOL, 4), INPUT] + loop + [rec(2, BOOL, 1)], 0), 23, "record 2")
+    refused("23-waits-along-a-chain.bin", node(
+        [rec(2, BOOL, 1), rec(2, BOOL, 4), INPUT, rec(2, BOOL, 4), rec(2, BOOL, 5), rec(2, BOOL, 4)], 2), 23, "record 0")
+    refused("23-waits-by-operand-b.bin", node([INPUT, rec(3, BOOL, 0, 2)] + loop, 0), 23, "record 1")
+    refused("23-waits-by-condition.bin", node([INPUT, rec(11, BOOL, 0, 0, 2)] + loop, 0), 23, "record 1")
+    refused("23-waits-above.bin", node([INPUT, rec(2, BOOL, 2), rec(2, BOOL, 1), rec(2, BOOL, 2)], 0), 23, "record 1")
+    # a pre of the loop doesn't wait for it
+    refused("23-pre-of-loop-is-placed.bin", node([rec(13, BOOL, 1, 2), INPUT] + loop, 0), 23, "record 2")
+    refused("23-two-loops.bin", node(
+        [INPUT, rec(2, BOOL, 2), rec(2, BOOL, 1), rec(2, BOOL, 4), rec(2, BOOL, 3)], 0), 23, "record 1")
+    refused("23-two-loops-nested.bin", node([rec(2, BOOL, 3), rec(2, BOOL, 2), rec(2, BOOL, 1), rec(2, BOOL, 0)], 0), 23, "record 0")
+    refused("23-two-loops-share-a-record.bin", node(
+        [INPUT, rec(3, BOOL, 2, 3), rec(2, BOOL, 1), rec(2, BOOL, 1)], 0), 23, "record 1")
+    refused("23-loop-and-loop-closed-by-pre.bin", node(
+        [rec(1, BOOL), rec(13, BOOL, 0, 2), rec(2, BOOL, 1), rec(2, BOOL, 4), rec(2, BOOL, 3)], 0), 23, "record 3")
+    # 20 reads 40: 20 to 40 are a loop, for which 41 to 63 wait. Records 0 and 1 are 13 and 2, record 2 is 55
+    refused("23-waits-shuffled.bin", node(shuffled(replaced(CHAIN, 20, rec(2, BOOL, 40))), 42), 23, "record 2")
+
+    refused("6-before-23.bin", node([rec(2, BOOL, 1), rec(2, BOOL, 0), rec(2, BOOL, 3)], 0), 6, "record 2")
+    refused("6-before-23-of-one-record.bin", node([rec(3, BOOL, 0, 1)], 0), 6, "record 0")
+    refused("23-before-7.bin", node([INPUT, rec(2, INT, 0), rec(2, BOOL, 2)], 0), 23, "record 2")
+    refused("23-before-7-of-one-record.bin", node([INPUT, rec(6, INT, 0, 1)], 0), 23, "record 1")
+    refused("23-before-8.bin", node([rec(0, INT), rec(2, BOOL, 1)], 0), 23, "record 1")
 
 
 def of_the_file():
@@ -93,19 +216,23 @@ def of_records():
         refused(f"5-zero-byte-{i}.bin", node(replaced(TWO_BANDS, i, rec(0, BOOL, rest=1 << (8 * i))), 5), 5, f"record {i}")
     refused("5-lowest-of-two.bin", node(replaced(replaced(TWO_BANDS, 4, rec(14, 0)), 2, rec(255, 0)), 5), 5, "record 2")
     refused("5-before-6-and-7.bin", node([INPUT, rec(2, INT, 9), rec(14, BOOL)], 0), 5, "record 2")
+    refused("5-before-23.bin", node([rec(2, BOOL, 0), rec(14, BOOL)], 0), 5, "record 1")
+    refused("5-before-6-and-23.bin", node([rec(2, BOOL, 0), rec(2, BOOL, 9), rec(2, BOOL, 0, 1)], 0), 5, "record 2")
     refused("5-last-of-64.bin", node(replaced(CHAIN, 63, rec(14, BOOL)), 0), 5, "record 63")
 
-    refused("6-first-reads-itself.bin", node([rec(2, BOOL, 0)], 0), 6, "record 0")
-    refused("6-middle-reads-itself.bin", node(replaced(TWO_BANDS, 3, rec(3, BOOL, 1, 3)), 5), 6, "record 3")
-    refused("6-last-reads-itself.bin", node(replaced(CHAIN, 63, rec(2, BOOL, 63)), 0), 6, "record 63")
     refused("6-operand-is-n.bin", node(replaced(TWO_BANDS, 5, rec(2, BOOL, 6)), 5), 6, "record 5")
     refused("6-operand-65535.bin", node(replaced(TWO_BANDS, 2, rec(2, BOOL, 65535)), 5), 6, "record 2")
-    refused("6-operand-b-later.bin", node(replaced(TWO_BANDS, 3, rec(3, BOOL, 1, 4)), 5), 6, "record 3")
-    refused("6-condition-later.bin", node([INPUT, rec(11, BOOL, 0, 0, 2), INPUT], 0), 6, "record 1")
+    refused("6-operand-plus-256.bin", node(replaced(TWO_BANDS, 3, rec(3, BOOL, 1, 256 + 2)), 5), 6, "record 3")
+    refused("6-operand-64-of-64.bin", node(replaced(REVERSED_CHAIN, 0, rec(2, BOOL, 64)), 0), 6, "record 0")
+    for name, record in (("first", rec(11, BOOL, 2, 0, 0)), ("second", rec(11, BOOL, 0, 2, 0)), ("condition", rec(11, BOOL, 0, 0, 2))):
+        refused(f"6-if-{name}-is-n.bin", node([INPUT, record], 0), 6, "record 1")
+    refused("6-arrow-second-is-n.bin", node([INPUT, rec(12, BOOL, 0, 2)], 0), 6, "record 1")
+    refused("6-pre-first-is-n.bin", node([INPUT, rec(13, BOOL, 2, 0)], 0), 6, "record 1")
     refused("6-pre-past-n.bin", node([INPUT, rec(13, BOOL, 0, 2)], 0), 6, "record 1")
-    refused("6-first-value-of-pre-itself.bin", node([INPUT, rec(13, BOOL, 1, 0)], 0), 6, "record 1")
-    refused("6-later-value-of-arrow-itself.bin", node([INPUT, rec(12, BOOL, 0, 1)], 0), 6, "record 1")
-    refused("6-before-7.bin", node([INPUT, rec(2, INT, 0), rec(2, BOOL, 2)], 0), 6, "record 2")
+    # the order would have 2 before 1
+    refused("6-lowest-of-two.bin", node([INPUT, rec(3, BOOL, 2, 3), rec(2, BOOL, 3)], 0), 6, "record 1")
+    refused("6-before-7.bin", node([INPUT, rec(2, INT, 0), rec(2, BOOL, 3)], 0), 6, "record 2")
+    refused("6-before-8.bin", node([rec(0, INT), rec(2, BOOL, 2)], 0), 6, "record 1")
 
     ints = [INPUT, rec(0, INT)]
     for name, record in (("not-typed-int", rec(2, INT, 0)), ("not-of-int", rec(2, BOOL, 1)), ("and-second-int", rec(3, BOOL, 0, 1)),
@@ -121,16 +248,19 @@ def of_records():
     refused("7-pre-of-itself-other-operand.bin", node([rec(0, INT), rec(13, BOOL, 0, 1), INPUT], 2), 7, "record 1")
     refused("7-last-of-64.bin", node(replaced(CHAIN, 63, rec(2, INT, 0)), 0), 7, "record 63")
     refused("7-lowest-of-two.bin", node(ints + [rec(2, INT, 0), rec(6, BOOL, 1, 1)], 0), 7, "record 2")
+    refused("7-operand-is-later.bin", node([rec(2, BOOL, 1), rec(0, INT)], 0), 7, "record 0")
+    refused("7-lowest-of-two-is-last-in-order.bin", node([rec(2, INT, 1), rec(2, INT, 2), INPUT], 2), 7, "record 0")
+    refused("7-before-8-of-reordered.bin", node([rec(8, INT, 1, k=2), rec(6, INT, 2, 2), INPUT], 0), 7, "record 1")
 
     refused("8-first.bin", node([rec(0, INT)], 0), 8, "record 0")
     refused("8-middle.bin", node([INPUT, rec(0, INT), INPUT], 1), 8, "record 1")
     refused("8-last.bin", node(ALL, 19), 8, "record 19")
+    refused("8-of-reordered.bin", node([rec(8, INT, 1, k=2), rec(0, INT)], 0), 8, "record 0")
 
 
 def main():
-    valid()
-    of_the_file()
-    of_records()
+    for cases in (valid, in_any_order, of_the_file, of_records, of_loops, of_waiting):
+        cases()
     write_data("check_node", {name: content for name, content, _ in CASES})
     write_lines("check_node", "args", [name for name, _, _ in CASES])
     write_lines("check_node", "stdout", [f"{name}: {says}" for name, _, says in CASES])

@@ -26,9 +26,31 @@ def replaced(items, i, item):
     return items[:i] + [item] + items[i + 1:]
 
 
+# how many operands an operator reads, a first
+OPERANDS = (0, 0, 1, 2, 2, 2, 2, 2, 1, 2, 2, 3, 2, 2)
+
+
+def reordered(records, order):
+    """The records in another order: `order` has the old number of each. Operands that are read are renumbered with them."""
+    def moved(old):
+        op, kind, *operands, k, rest = struct.unpack("<BBHHHiI", records[old])
+        read = OPERANDS[op]
+        return rec(op, kind, *map(order.index, operands[:read]), *operands[read:], k, rest)
+
+    return [moved(old) for old in order]
+
+
+def reordered_node(data, order):
+    """A node file without a note, its records in another order."""
+    records = [data[i:i + 16] for i in range(0, len(data) - 16, 16)]
+    return node(reordered(records, order), order.index(struct.unpack_from("<H", data, len(data) - 10)[0]))
+
+
 INPUT = rec(0, BOOL)
 # 0, 1 inputs; 2 not 0; 3 = 1 and 2; 4 = 0 and 3; 5 not 4, the property
 TWO_BANDS = [INPUT, INPUT, rec(2, BOOL, 0), rec(3, BOOL, 1, 2), rec(3, BOOL, 0, 3), rec(2, BOOL, 4)]
+# the same as people write it: 0 = not 5, the property; 1, 2 inputs; 3 not 1; 4 = 2 and 3; 5 = 1 and 4
+PROPERTY_FIRST = [rec(2, BOOL, 5), INPUT, INPUT, rec(2, BOOL, 1), rec(3, BOOL, 2, 3), rec(3, BOOL, 1, 4)]
 # every operator, and both types of 0, 1, 11, 12 and 13
 ALL = [
     rec(0, BOOL),                       # 0
