@@ -12,7 +12,7 @@ written down. The files go to crates/run_passes/data, the names, node and pass i
 """
 import struct
 
-from node_files import ALL, BOOL, INPUT, INT, TWO_BANDS, node, rec, replaced, write_data, write_lines
+from node_files import ALL, BOOL, INPUT, INT, PROPERTY_FIRST, TWO_BANDS, node, rec, reordered, replaced, write_data, write_lines
 
 LEAST, GREATEST = -(1 << 63), (1 << 63) - 1
 HALF = 1 << 62
@@ -40,11 +40,25 @@ ROWS = {
 }
 
 
+# how many operands each operator needs now, a first
+NEEDED = (0, 0, 1, 2, 2, 2, 2, 2, 1, 2, 2, 3, 2, 1)
+
+
+def order_of(records):
+    """Each time the lowest record that is not placed and whose operands needed now are."""
+    order = []
+    while len(order) < len(records):
+        order.append(next(i for i, (op, _, *operands) in enumerate(records)
+                          if i not in order and all(a in order for a in operands[:NEEDED[op]])))
+    return order
+
+
 class Session:
     """A session on a node's records, or on none."""
 
     def __init__(self, records):
         self.records = records and [struct.unpack("<BBHHHiI", record) for record in records]
+        self.order = records and order_of(self.records)
         self.before = None
 
     def call(self, inputs, room):
@@ -59,14 +73,14 @@ class Session:
         for i in places:
             if self.records[i][1] == BOOL and given[i] not in (0, 1):
                 return f"refused 33 record {i}"
-        now = []
-        for i, (op, _, a, b, c, k, _) in enumerate(self.records):
-            now.append(given[i] if op == 0 else ROWS[op](a, b, c, k, now, self.before))
-        for i, value in enumerate(now):
-            if not LEAST <= value <= GREATEST:
+        now = {}
+        for i in self.order:
+            op, _, a, b, c, k, _ = self.records[i]
+            now[i] = given[i] if op == 0 else ROWS[op](a, b, c, k, now, self.before)
+            if not LEAST <= now[i] <= GREATEST:
                 return f"refused 34 record {i}"
         self.before = now
-        return " ".join(["answered", *map(str, now)])
+        return " ".join(["answered", *[str(now[i]) for i in range(len(now))]])
 
 
 class Pass:
@@ -366,6 +380,139 @@ def whole_nodes():
     p.call(says="answered 0 1 1000000000 -1000000000")
 
 
+def shown(order, line):
+    """The line of an answered call on records that stand in another order."""
+    word, *values = line.split()
+    return " ".join([word, *[values[old] for old in order]])
+
+
+def reordered_nodes():
+    """Nodes from above, or alike, whose records stand in another order."""
+    p = begun("property-first", PROPERTY_FIRST, 0)
+    p.call(1, 1, says="answered 1 1 1 0 0 0")
+    p.call(1, 1, room=5, says="refused 32 file")
+    p.call(0, 1, says="answered 1 0 1 1 1 0")
+    p.call(1, 2, says="refused 33 record 2")
+    p.call(2, 2, says="refused 33 record 1")
+    p.call(1, 0, says="answered 1 1 0 0 0 0")
+    p.call(1, says="refused 31 file")
+    p.call(0, 0, says="answered 1 0 0 1 0 0")
+    p = begun("property-first-with-note", PROPERTY_FIRST, 0, node(TWO_BANDS, 5))
+    p.call(0, 1, says="answered 1 0 1 1 1 0")
+
+    # 2 = zero -> pre 1; 1 = 2 + one
+    p = begun("counter-reversed", [rec(9, BOOL, 4, 2), rec(6, INT, 2, 3), rec(13, INT, 4, 1), rec(1, INT, k=1), rec(1, INT)], 0)
+    p.call(says="answered 1 1 0 1 0")
+    p.call(0, says="refused 31 file")
+    p.call(says="answered 1 2 1 1 0")
+    p.call(says="answered 1 3 2 1 0")
+    # 0 = not 1; 1 = false -> pre 0
+    p = begun("to-and-fro-closed-by-pre", [rec(2, BOOL, 1), rec(13, BOOL, 2, 0), rec(1, BOOL)], 0)
+    p.call(says="answered 1 0 0")
+    p.call(room=2, says="refused 32 file")
+    p.call(says="answered 0 1 0")
+    p.call(says="answered 1 0 0")
+    # 0 = 4 -> pre 2; 1 = 4 -> 3; 2 = 4 -> pre 3; 3 = 4 less 5
+    p = begun("arrows-of-later", [rec(13, INT, 4, 2), rec(12, INT, 4, 3), rec(13, INT, 4, 3), rec(7, INT, 4, 5), NUMBER, NUMBER,
+                                  rec(9, BOOL, 0, 1)], 6)
+    p.call(10, 3, says="answered 10 10 10 7 10 3 1")
+    p.call(20, 1, says="answered 10 19 7 19 20 1 1")
+    p.call(LEAST, 1, says="refused 34 record 3")
+    p.call(5, 6, says="answered 7 -1 19 -1 5 6 0")
+    p.call(0, 0, says="answered 19 0 -1 0 0 0 0")
+
+    p = begun("sixty-four-nots-reversed", [rec(2, BOOL, i + 1) for i in range(63)] + [INPUT], 0)
+    p.call(1, says="answered" + " 0 1" * 32)
+    p.call(2, says="refused 33 record 63")
+    p.call(0, room=63, says="refused 32 file")
+    p.call(0, says="answered" + " 1 0" * 32)
+    p = begun("sixty-four-delays-reversed", [TRUE] + [rec(13, INT, 63, i) for i in range(2, 64)] + [NUMBER], 0)
+    p.call(9, says="answered 1" + " 9" * 63)
+    p.call(8, says="answered 1" + " 9" * 62 + " 8")
+    p.call(7, says="answered 1" + " 9" * 61 + " 8 7")
+
+
+def shuffled_nodes():
+    # 1, an int, is now the first input, and 0 the second
+    order = [13, 4, 19, 1, 16, 10, 7, 18, 15, 2, 9, 6, 12, 0, 17, 3, 14, 5, 11, 8]
+    p = begun("all-operators-shuffled", reordered(ALL, order), order.index(17))
+    p.call(5, 1, says=shown(order, "answered 1 5 1 -7 0 0 1 1 -2 -7 -21 0 0 0 -7 1 -7 1 -7 -2"))
+    p.call(-4, 0, says=shown(order, "answered 0 -4 1 -7 1 0 1 0 -11 -7 -21 0 0 0 -7 0 -7 1 -2 -6"))
+    # record 2 is 19, which is -6 and the int, and stands in the order before record 19, which is 8, the int less 7
+    p.call(LEAST, 1, says="refused 34 record 2")
+    p.call(LEAST + 6, 1, says="refused 34 record 19")
+    p.call(LEAST, 2, says="refused 33 record 13")
+    p.call(-30, 1, says=shown(order, "answered 1 -30 1 -7 0 0 1 1 -37 -7 -21 1 0 0 -37 0 -37 1 -6 -36"))
+    p.calls((0, 2), (0, 0), (-21, 1), (GREATEST, 0), (6, 0))
+    order = list(range(19, -1, -1))
+    p = begun("all-operators-reversed", reordered(ALL, order), 2)
+    p.call(5, 1, says=shown(order, "answered 1 5 1 -7 0 0 1 1 -2 -7 -21 0 0 0 -7 1 -7 1 -7 -2"))
+    p.call(-4, 0, says=shown(order, "answered 0 -4 1 -7 1 0 1 0 -11 -7 -21 0 0 0 -7 0 -7 1 -2 -6"))
+    p.call(-30, 1, says=shown(order, "answered 1 -30 1 -7 0 0 1 1 -37 -7 -21 1 0 0 -37 0 -37 1 -6 -36"))
+    p.calls((0, 2), (0, 0), (-21, 1), (GREATEST, 0), (6, 0))
+
+    # stream i of the chain is record 29 i + 7, modulo 64
+    order = [53 * (r - 7) % 64 for r in range(64)]
+    p = begun("sixty-four-nots-shuffled", reordered([INPUT] + [rec(2, BOOL, i) for i in range(63)], order), 42)
+    p.call(1, says=shown(order, "answered" + " 1 0" * 32))
+    p.call(0, says=shown(order, "answered" + " 0 1" * 32))
+    p = begun("doubled-shuffled", reordered([NUMBER] + [rec(6, INT, i, i) for i in range(62)] + [TRUE], order), 42)
+    p.call(1, says=shown(order, "answered " + " ".join(str(2 ** i) for i in range(63)) + " 1"))
+    # stream 62 is record 13; stream 61, which it reads, is record 48
+    p.call(2, says="refused 34 record 13")
+    p.call(4, says="refused 34 record 48")
+    p.calls((GREATEST,), (LEAST,), (-2,))
+
+
+def first_outside():
+    """34 names the first in the order, which may stand above another that is outside too. 33 comes before, and goes by records."""
+    # the order is 2, 1, 0
+    p = begun("higher-first", [rec(6, INT, 1, 1), rec(6, INT, 2, 2), NUMBER, TRUE], 3)
+    p.call(HALF, says="refused 34 record 1")
+    p.call(HALF // 2, says="refused 34 record 0")
+    p.call(HALF // 2 - 1, says="answered 9223372036854775804 4611686018427387902 2305843009213693951 1")
+    p.call(-HALF - 1, says="refused 34 record 1")
+    # the order is 1, 2, 3, 0: what 2 reads comes before what 0 reads
+    p = begun("higher-first-of-two-inputs", [rec(6, INT, 3, 3), NUMBER, rec(6, INT, 1, 1), NUMBER, TRUE], 4)
+    p.call(HALF, HALF, says="refused 34 record 2")
+    p.call(HALF, 0, says="refused 34 record 2")
+    p.call(0, HALF, says="refused 34 record 0")
+    p.call(3, -4, says="answered -8 3 6 -4 1")
+    # the order is 1, 0, 2: 0 as soon as it can be
+    p = begun("lower-first", [rec(6, INT, 1, 1), NUMBER, rec(8, INT, 1, k=4), TRUE], 3)
+    p.call(HALF, says="refused 34 record 0")
+    p.call(HALF // 2, says="refused 34 record 2")
+    p.call(5, says="answered 10 5 20 1")
+    # the order is 3, 0, 4, 1, 2: 0 comes before 4, which 1 waits for
+    p = begun("lower-first-again", [rec(8, INT, 3, k=2), rec(6, INT, 4, 4), rec(7, INT, 1, 0), NUMBER, NUMBER, TRUE], 5)
+    p.call(HALF, HALF, says="refused 34 record 0")
+    p.call(0, HALF, says="refused 34 record 1")
+    p.call(-HALF, HALF - 1, says="refused 34 record 2")
+    p.call(2, 5, says="answered 4 10 6 2 5 1")
+    # doubled from 63 down to 1: where 2 is outside so is 1, but 2 comes first
+    p = begun("doubled-reversed", [TRUE] + [rec(6, INT, i + 1, i + 1) for i in range(1, 63)] + [NUMBER], 0)
+    p.call(1, says="answered 1 " + " ".join(str(2 ** i) for i in range(62, -1, -1)))
+    p.call(2, says="refused 34 record 1")
+    p.call(4, says="refused 34 record 2")
+    p.call(GREATEST, says="refused 34 record 62")
+    p.call(-2, says="answered 1 " + " ".join(str(-2 ** i) for i in range(63, 0, -1)))
+    # the untaken branch, and the later operand at instant 0, are worked out before what doesn't take them
+    p = begun("untaken-branch-later", [rec(11, INT, 3, 2, 4), rec(12, INT, 3, 2), rec(6, INT, 3, 3), NUMBER, INPUT], 4)
+    p.call(HALF, 1, says="refused 34 record 2")
+    p.call(7, 1, says="answered 7 7 14 7 1")
+    p.call(8, 0, says="answered 16 16 16 8 0")
+
+    # the order is 2, 3, 1, 4, 0; inputs are those of 2, 3 and 4, and 33 is looked at before 1 is worked out
+    p = begun("inputs-later", [rec(3, BOOL, 2, 4), rec(6, INT, 3, 3), INPUT, NUMBER, INPUT], 0)
+    p.call(1, HALF, 2, says="refused 33 record 4")
+    p.call(2, HALF, 2, says="refused 33 record 2")
+    p.call(1, HALF, 1, says="refused 34 record 1")
+    p.call(1, 5, 1, says="answered 1 10 1 5 1")
+    p.call(0, -6, 1, says="answered 0 -12 0 -6 1")
+    p.call(1, 1, room=4, says="refused 31 file")
+    p.call(1, 7, 0, says="answered 0 14 1 7 0")
+
+
 def operators():
     """Truth tables; comparisons at the limits."""
     p = begun("truth-tables", [INPUT, INPUT, INPUT, rec(2, BOOL, 0), rec(3, BOOL, 0, 1), rec(4, BOOL, 0, 1), rec(5, BOOL, 0, 1),
@@ -390,13 +537,19 @@ def no_node():
     refused("3-property-is-n", node(TWO_BANDS, 6), "refused 3 file")
     refused("4-past-the-start", node(TWO_BANDS, 5)[1:], "refused 4 file")
     refused("5-operator-14", node(replaced(TWO_BANDS, 3, rec(14, BOOL)), 5), "refused 5 record 3")
-    refused("6-reads-itself", node(replaced(TWO_BANDS, 4, rec(3, BOOL, 0, 4)), 5), "refused 6 record 4")
+    refused("6-operand-is-n", node(replaced(TWO_BANDS, 4, rec(3, BOOL, 0, 6)), 5), "refused 6 record 4")
+    refused("23-reads-itself", node(replaced(TWO_BANDS, 4, rec(3, BOOL, 0, 4)), 5), "refused 23 record 4")
+    # 1 = 0 and 2, 2 = not 1; the property only waits for them
+    loop = [rec(2, BOOL, 2), rec(3, BOOL, 3, 2), rec(2, BOOL, 1), INPUT]
+    refused("23-property-waits", node(loop, 0), "refused 23 record 0")
+    refused("23-with-note", node(loop, 0, node(TWO_BANDS, 5)), "refused 23 record 0")
     refused("7-not-typed-int", node(replaced(TWO_BANDS, 2, rec(2, INT, 0)), 5), "refused 7 record 2")
     refused("8-property-is-int", node(TWO_BANDS + [NUMBER], 6), "refused 8 record 6")
 
 
 def main():
-    for part in (two_bands, order, counters, arrows, sums, multiples, outside, whole_nodes, operators, no_node):
+    for part in (two_bands, order, counters, arrows, sums, multiples, outside, whole_nodes, reordered_nodes, shuffled_nodes,
+                 first_outside, operators, no_node):
         part()
     write_data("run_passes", FILES)
     write_lines("run_passes", "args", NAMES)
