@@ -68,6 +68,19 @@ def trailer(depth, constraints, base, step, distance=None, first=0x4B, second=0x
     return struct.pack("<BBBBHHHHI", first, second, version, depth, constraints, base, step, zeros, distance)
 
 
+def carried_literal(literal, order):
+    """A literal of a node in another order; those on constraints stay."""
+    offset, stream = divmod(literal // 2, 64)
+    return literal if literal >= on(0) else lit(order.index(stream), offset) + literal % 2
+
+
+def carried_constraint(packed, order):
+    """A constraint of a node in another order: its terms rise by the new numbers."""
+    count, _, bound, terms = struct.unpack("<B7sq64s", packed)
+    used = list(struct.iter_unpack("<HBBi", terms))[:count]
+    return at_most({(order.index(stream), offset): coefficient for stream, offset, _, coefficient in used}, bound)
+
+
 @dataclass(frozen=True)
 class Certificate:
     """Constraints, packed, and lines, of which the first `base` are the base's."""
@@ -92,6 +105,16 @@ class Certificate:
 
     def with_constraint(self, i, other):
         return replace(self, constraints=replaced(self.constraints, i, other))
+
+    def carried(self, order):
+        """The same for the node in another order (`reordered`): every stream that is named has its new number."""
+        def moved(line):
+            return replace(line, literals=tuple(carried_literal(x, order) for x in line.literals),
+                           p=order.index(line.p) if line.kind == 1 else line.p,
+                           r=carried_literal(line.r, order) if line.kind == 3 else line.r)
+
+        return replace(self, constraints=[carried_constraint(c, order) for c in self.constraints],
+                       lines=[moved(line) for line in self.lines])
 
 
 class Proof:

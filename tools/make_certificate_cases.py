@@ -11,13 +11,15 @@ import cut_cases
 import example_proofs
 import factor_cases
 import half_minute_proofs
+import order_proofs
 import parity_proofs
 from booking_proofs import LATE, base_for_step, start_only
 from certificate_files import (BOUND, COEFFICIENT, MULTIPLIER, Certificate, Line, Proof, constraint, cut, lit, on, opp, term,
                                trailer)
-from node_files import BOOL, INPUT, INT, TWO_BANDS, node, rec, replaced, write_data, write_lines
+from node_files import BOOL, INPUT, INT, PROPERTY_FIRST, TWO_BANDS, node, rec, reordered_node, replaced, write_data, write_lines
 
-NODES = {**example_proofs.NODES, **parity_proofs.NODES, **half_minute_proofs.NODES, "factors": factor_cases.NODE}
+NODES = {**example_proofs.NODES, **parity_proofs.NODES, **half_minute_proofs.NODES, **order_proofs.NODES,
+         "factors": factor_cases.NODE}
 CASES = []
 # Of depth 1. Base lines 0 to 11 and step lines 12 to 23; no constraints.
 BANDS = example_proofs.two_bands()
@@ -28,6 +30,9 @@ COUNTER = example_proofs.counter(1)
 DELAYED = example_proofs.delayed()
 # "0 at most 0"
 FILLER = constraint([], 0)
+# The two bands with the property first, and every operator in disorder.
+FIRST = (5, 0, 1, 2, 3, 4)
+SHUFFLED = (13, 4, 19, 1, 16, 10, 7, 18, 15, 2, 9, 6, 12, 0, 17, 3, 14, 5, 11, 8)
 
 
 def case(name, node_name, data, says):
@@ -144,7 +149,10 @@ def of_the_node():
     NODES["property-is-n"] = node(TWO_BANDS, 6)
     NODES["distance-one-less"] = node(TWO_BANDS, 5, distance=111)
     NODES["operator-14"] = node(replaced(TWO_BANDS, 3, rec(14, BOOL)), 5)
+    NODES["operand-is-n"] = node(replaced(TWO_BANDS, 4, rec(3, BOOL, 6, 3)), 5)
     NODES["reads-itself"] = node(replaced(TWO_BANDS, 4, rec(3, BOOL, 4, 3)), 5)
+    # 3 and 4 are a loop, for which 0 waits
+    NODES["waits"] = node(replaced(PROPERTY_FIRST, 3, rec(2, BOOL, 4)), 0)
     NODES["typed-int"] = node(replaced(TWO_BANDS, 2, rec(2, INT, 0)), 5)
     NODES["property-int"] = node([rec(0, INT)], 0)
     refused("1-no-node-file", "missing", b"", 1, "file")
@@ -152,7 +160,12 @@ def of_the_node():
     refused("3-node-property-is-n", "property-is-n", BANDS.file(depth=0), 3, "file")
     refused("4-node-distance", "distance-one-less", BANDS.file(distance=0), 4, "file")
     refused("5-node-operator-14", "operator-14", BANDS.more(constraints=[constraint([], 0, count=9)]), 5, "record 3")
-    refused("6-node-reads-itself", "reads-itself", BANDS.changed(0, kind=0), 6, "record 4")
+    refused("6-node-operand-is-n", "operand-is-n", BANDS.changed(0, kind=0), 6, "record 4")
+    refused("23-node-reads-itself", "reads-itself", BANDS.changed(0, kind=0), 23, "record 4")
+    refused("23-node-reads-itself-before-11", "reads-itself", b"", 23, "record 4")
+    refused("23-node-waits-before-11", "waits", None, 23, "record 0")
+    refused("23-node-waits-before-12", "waits", BANDS.file(version=2), 23, "record 0")
+    refused("23-node-waits", "waits", BANDS.carried(FIRST), 23, "record 0")
     refused("7-node-typed-int", "typed-int", BANDS.changed(2, p=2), 7, "record 2")
     refused("8-node-property-int", "property-int", b"\0" * 15, 8, "record 0")
 
@@ -433,6 +446,72 @@ def of_factors():
         factors(f"cut-to-{factor}-r-{r}", factor_cases.by_cut(factor, r), 22, "line 7")
 
 
+def reversed_order(node_name):
+    return range(len(NODES[node_name]) // 16 - 2, -1, -1)
+
+
+def carried(name, node_name, proof, order, *says):
+    """A certificate from above for the node in another order: accepted as it was."""
+    NODES[name] = reordered_node(NODES[node_name], order)
+    accepted(name, name, proof.carried(order), *says)
+
+
+def in_another_order():
+    """The same certificates, but every stream has its new number and the terms of constraints rise by these."""
+    carried("two-bands-property-first", "two-bands", BANDS, FIRST, 1, 12, 12)
+    carried("counter-property-first", "counter", COUNTER, (4, 0, 1, 2, 3), 1, 7, 21)
+    accepted("property-first", "property-first", order_proofs.property_first(), 2, 23, 29)
+    every = example_proofs.all_operators()
+    carried("all-operators-shuffled", "all-operators", every, SHUFFLED, 2, 92, 128)
+    multiplied = factor_cases.multiplied(every, range(1, 257))
+    accepted("factors-all-operators-shuffled", "all-operators-shuffled", multiplied.carried(SHUFFLED), 2, 92, 128)
+    for name, proof, *says in (
+            ("two-bands", BANDS, 1, 12, 12), ("counter", example_proofs.counter(8), 8, 126, 21),
+            ("countdown", example_proofs.countdown(2), 2, 26, 23), ("grant", example_proofs.grant(), 1, 22, 32),
+            ("delayed", DELAYED, 2, 9, 7), ("ring", example_proofs.ring(), 8, 75, 19),
+            ("first", example_proofs.first(), 2, 15, 9), ("double", example_proofs.double(), 1, 15, 15),
+            ("successor", example_proofs.successor(), 1, 13, 13), ("absolute", example_proofs.absolute(), 1, 20, 20),
+            ("itself", example_proofs.itself(), 1, 5, 5), ("mirror", example_proofs.mirror(), 1, 6, 6),
+            ("pairs-of-minutes", parity_proofs.pairs_of_minutes(), 1, 34, 34),
+            ("half-minutes", half_minute_proofs.half_minutes(), 1, 28, 34), ("all-operators", every, 2, 92, 128)):
+        carried(f"{name}-reversed", name, proof, reversed_order(name), *says)
+
+
+def of_another_order():
+    """Certificates that are for the same records in another order, wholly or in part."""
+    refused("18-original-order", "two-bands-property-first", BANDS, 18, "line 0")
+    refused("18-original-order-reversed", "two-bands-reversed", BANDS, 18, "line 0")
+    bands("18-carried-to-another-order", BANDS.carried(FIRST), 18, "line 0")
+    # line 1 is of stream 5, now "1 and 4"
+    refused("17-original-order-but-property", "two-bands-property-first", BANDS.changed(0, literals=(opp(lit(0)),)), 17, "line 1")
+    # stream 0, of which constraint 0 is, is now the property; and stream 1, which line 0 names, is now the number
+    refused("15-original-order", "counter-property-first", COUNTER, 15, "constraint 0")
+    refused("16-original-order", "itself-reversed", example_proofs.itself(), 16, "line 0")
+    # the constants exchanged: 2 = 1 -> pre 3, where line 1 says 0
+    NODES["counter-exchanged"] = reordered_node(NODES["counter"], (1, 0, 2, 3, 4))
+    refused("17-original-order", "counter-exchanged", COUNTER, 17, "line 1")
+
+    # constraint 0 is 4 <= 2, so that 2 comes first
+    turned = example_proofs.counter(1).carried(reversed_order("counter"))
+    terms = [term(4, 0, 1), term(2, 0, -1)]
+    refused("15-terms-not-sorted-again", "counter-reversed", turned.with_constraint(0, constraint(terms, 0)), 15, "constraint 0")
+    refused("17-bound-one-off-reversed", "counter-reversed", turned.with_constraint(0, constraint(terms[::-1], 1)), 17, "line 1")
+    # clause literals go by operands, not by numbers: {s, a} of stream 0 and its operand 1
+    turned = BANDS.carried(reversed_order("two-bands"))
+    refused("17-literals-fall-reversed", "two-bands-reversed", turned.changed(1, literals=(lit(1), lit(0))), 17, "line 1")
+
+
+def factors_reversed():
+    """Streams before their operands: the first term of a constraint is then the stream's."""
+    order = reversed_order("factors")
+    NODES["factors-reversed"] = reordered_node(factor_cases.NODE, order)
+    for name, (proof, lines) in factor_cases.right().items():
+        accepted(f"factors-reversed-{name}", "factors-reversed", proof.carried(order), 1, lines, lines)
+    accepted("factors-reversed-depth-2", "factors-reversed", factor_cases.of_depth_2().carried(order), 2, 21, 19)
+    for name, line in factor_cases.wrong().items():
+        refused(f"17-reversed-multiple-{name}", "factors-reversed", factor_cases.after(1, line).carried(order), 17, "line 6")
+
+
 def of_parts():
     no_base = Proof(1)
     no_base.begin_step()
@@ -469,7 +548,7 @@ def both_signs_struck():
 
 def false_turns():
     """The properties of the late nodes, of the wish, of the forged pairs and of the forged minutes fail. The counter's holds, but
-    not by lines that drop the -1."""
+    not by lines that drop the -1. The equations of the forged loop have no solution."""
     # 3 = true -> pre 2 fails at instant 2, where 2 = true -> pre 1 or true -> 1, an input
     NODES["late"] = node(LATE, 3)
     NODES["late-arrow"] = node(replaced(LATE, 2, rec(12, BOOL, 0, 1)), 3)
@@ -488,11 +567,13 @@ def false_turns():
     refused("false-turn-bound-not-scaled", "forged-minutes", half_minute_proofs.forged(), 17, "line 8")
     # and with the bound that it should have
     refused("false-turn-bound-scaled", "forged-minutes", half_minute_proofs.half_minutes(60), 20, "line 9")
+    refused("false-turn-loop", "forged-loop", order_proofs.forged(), 23, "record 2")
 
 
 def main():
     for cases in (whole_proofs, allowed, of_the_node, of_the_file, of_constraints, of_any_kind, of_equations, of_properties,
-                  of_joins, of_arithmetic, of_cuts, whole_proofs_multiplied, of_factors, of_parts, false_turns):
+                  of_joins, of_arithmetic, of_cuts, whole_proofs_multiplied, of_factors, in_another_order, of_another_order,
+                  factors_reversed, of_parts, false_turns):
         cases()
     nodes = {f"{name}.node": data for name, data in NODES.items()}
     write_data("check_pairs", {**nodes, **{name: data for _, name, data, _ in CASES}})
