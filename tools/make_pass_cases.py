@@ -12,6 +12,7 @@ written down. The files go to crates/run_passes/data, the names, node and pass i
 """
 import struct
 
+import order_proofs
 from node_files import ALL, BOOL, INPUT, INT, PROPERTY_FIRST, TWO_BANDS, node, rec, reordered, replaced, write_data, write_lines
 
 LEAST, GREATEST = -(1 << 63), (1 << 63) - 1
@@ -420,6 +421,14 @@ def reordered_nodes():
     p.call(LEAST, 1, says="refused 34 record 3")
     p.call(5, 6, says="answered 7 -1 19 -1 5 6 0")
     p.call(0, 0, says="answered 19 0 -1 0 0 0 0")
+
+    # the node of examples/property-first
+    p = begun("handover-property-first", order_proofs.AS_WRITTEN, 0)
+    p.call(0, says="answered 1 40 30 40 45 40 30 0")
+    p.call(0, says="answered 1 30 40 30 45 40 30 0")
+    p.call(1, says="answered 1 40 30 30 45 40 30 1")
+    p.call(2, says="refused 33 record 7")
+    p.call(0, says="answered 1 30 30 30 45 40 30 0")
 
     p = begun("sixty-four-nots-reversed", [rec(2, BOOL, i + 1) for i in range(63)] + [INPUT], 0)
     p.call(1, says="answered" + " 0 1" * 32)
