@@ -12,11 +12,12 @@ from dataclasses import dataclass
 import booking_proofs
 import example_proofs
 import half_minute_proofs
+import order_proofs
 import parity_proofs
 from certificate_files import Certificate
 from node_files import ROOT, node
 
-NODES = {**example_proofs.NODES, **booking_proofs.NODES, **parity_proofs.NODES, **half_minute_proofs.NODES,
+NODES = {**example_proofs.NODES, **booking_proofs.NODES, **parity_proofs.NODES, **half_minute_proofs.NODES, **order_proofs.NODES,
          "forged": node(booking_proofs.LATE, 3)}
 TYPES = ("bool", "int")
 # by operator
@@ -250,6 +251,25 @@ EXAMPLES = (
         then have multipliers 2 and 40 where these have 1. Lines of the other kinds take a constraint as it is written: joins
         cite this constraint and no multiple of it, and arithmetic adds up the coefficients that stand there."""),
     Example(
+        "property-first", "The property first",
+        """The node of handover as its author writes it: what is to be kept stands first, then what that reads, and constants and
+        the input last. An early and a late crew share a dish and hand their minutes over to each other at every instant. The early
+        crew may give its minutes up; it then hands over 30, those of a short booking.""",
+        (("fine", "the property"), ("early", "minutes of the early crew"), ("late", "minutes of the late crew"),
+         ("handed", "what the early crew hands over"), ("limit", "the most minutes allowed"),
+         ("long", "minutes of a long booking"), ("short", "minutes of a short one"),
+         ("gives up", "the early crew gives its minutes up")),
+        "the early crew never has more than 45 minutes.",
+        "2, as for handover.",
+        """that of handover, line by line. Only the streams have other numbers, and the terms of each constraint rise by these:
+        where it is on `early` and `limit`, that on `early` now comes first.""",
+        order_proofs.property_first(), "accepted depth 2 base 23 step 29", (),
+        """The reader works out an order, each time the lowest record whose operands needed now are all placed: `limit`, `long`,
+        `early`, `fine`, `short`, `late`, `gives up`, `handed`. What `pre` reads is not needed now: `early` reads `late`, `late`
+        reads `handed` and `handed` reads `early`, but only `handed` does so at the same instant. A session works its values out
+        in this order and gives them by record, as it takes its inputs. Where `gives up` is 0 at instant 0, the values are 1, 40,
+        30, 40, 45, 40, 30, 0."""),
+    Example(
         "forged", "A forged certificate",
         """A licence office says at each instant whether a licence is valid, and its word takes two instants to arrive at the
         booking desk. Until then the desk takes the licence to be valid.""",
@@ -291,6 +311,25 @@ EXAMPLES = (
         checker that multiplies coefficients alone would accept a false property. With the bound 120 in both, line 9 would be
         refused with 20.""",
         half_minute_proofs.forged(), "refused 17 line 8"),
+    Example(
+        "forged-loop", "A loop of equations",
+        """Two stations ask for one dish. The second is granted whenever it asks. The first is to be granted if it asks and was not
+        granted one instant before, but the author left the `pre` out: it is granted if it is not granted.""",
+        (("first", "the first station asks"), ("second", "the second station asks, and is granted"),
+         ("granted", "the first is granted"), ("idle", "the first is not granted"), ("both", "both are granted"),
+         ("fine", "the property")),
+        """never are both granted at one instant. It is neither true nor false: where `first` is 1 the equations have no
+        solution, for `granted` would be not `granted`.""",
+        "1, but no depth would do.",
+        """if both were granted, the first was (`granted`); then it was `idle`, which is not `granted`. The step is the same ten
+        lines one offset on. Every line is as the equations have it, and the last one of each part has no literals: from
+        equations that nothing solves, everything follows. A checker that only compared lines with equations would accept it.""",
+        order_proofs.forged(), "refused 23 record 2", (),
+        """So the reader asks for an order in which each record comes after those that it needs now. `first` and `second` are
+        placed. `granted` waits for `idle` and `idle` for `granted`; `both` waits for `granted`, and `fine` for `both`. The lowest
+        record never placed is 2, and the node is refused with 23 before its certificate is looked at. With the property as
+        record 0 the verdict would be `refused 23 record 0`: it is in no loop and only waits for one. With the `pre` there is an
+        order, and the property fails where both stations ask at instant 0."""),
 )
 
 PAGE = """# Examples
