@@ -14,7 +14,7 @@ use std::fs;
 use std::process::Command;
 
 /// The folders that are refused, by name.
-const FORGED: [&str; 3] = ["forged", "forged-minutes", "forged-pairs"];
+const FORGED: [&str; 4] = ["forged", "forged-loop", "forged-minutes", "forged-pairs"];
 
 #[test]
 fn every_verdict_is_as_written() {
@@ -65,7 +65,7 @@ fn only_the_forged_are_refused() {
     let refused = |folder: &&Folder| !folder.verdict.starts_with("accepted");
     let names: Vec<&str> = folders.iter().filter(refused).map(Folder::name).collect();
     assert_eq!(names, FORGED);
-    assert_eq!(folders.len(), 12);
+    assert_eq!(folders.len(), 14);
 }
 
 /// Inputs for one instant.
@@ -153,6 +153,19 @@ fn crews_hand_their_minutes_over() {
     assert_eq!(run("handover", &given_up, 5), [30, 40, 30, 30, 30, 30]);
 }
 
+/// The node of handover in another order: `early` is stream 1, `late` 2, and
+/// `fine`, first of all, 0.
+#[test]
+fn the_property_may_stand_first() {
+    let given_up = [[0], [0], [1], [0], [0], [0]];
+    assert_eq!(run("property-first", &given_up, 0), [1; 6]);
+    assert_eq!(run("property-first", &given_up, 1), run("handover", &given_up, 4));
+    assert_eq!(run("property-first", &given_up, 2), run("handover", &given_up, 5));
+    let file = named("property-first").node;
+    let node = node::read(&file).unwrap();
+    assert_eq!(node.order(), [4, 5, 1, 0, 6, 2, 7, 3]);
+}
+
 #[test]
 fn the_forged_property_fails() {
     assert_eq!(run("forged", &[[0], [1], [1], [1]], 3), [1, 1, 0, 1]);
@@ -160,7 +173,7 @@ fn the_forged_property_fails() {
 
 #[test]
 fn no_smaller_depth_is_found() {
-    for (name, depth) in [("handover", 2), ("relay", 8)] {
+    for (name, depth) in [("handover", 2), ("property-first", 2), ("relay", 8)] {
         let node = named(name).node;
         assert!(search::certificate(&node, depth).is_some(), "{name}");
         assert_eq!(search::certificate(&node, depth - 1), None, "{name}");
