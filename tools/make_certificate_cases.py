@@ -482,9 +482,9 @@ def of_another_order():
     refused("18-original-order", "two-bands-property-first", BANDS, 18, "line 0")
     refused("18-original-order-reversed", "two-bands-reversed", BANDS, 18, "line 0")
     bands("18-carried-to-another-order", BANDS.carried(FIRST), 18, "line 0")
-    # line 1 is of stream 5, now "1 and 4"
+    # line 1 is of stream 5, which is now 1 and 4
     refused("17-original-order-but-property", "two-bands-property-first", BANDS.changed(0, literals=(opp(lit(0)),)), 17, "line 1")
-    # stream 0, of which constraint 0 is, is now the property; and stream 1, which line 0 names, is now the number
+    # constraint 0 has a term on stream 0, now the property; and line 0 names stream 1, now the number
     refused("15-original-order", "counter-property-first", COUNTER, 15, "constraint 0")
     refused("16-original-order", "itself-reversed", example_proofs.itself(), 16, "line 0")
     # the constants exchanged: 2 = 1 -> pre 3, where line 1 says 0

@@ -548,7 +548,7 @@ def no_node():
     refused("5-operator-14", node(replaced(TWO_BANDS, 3, rec(14, BOOL)), 5), "refused 5 record 3")
     refused("6-operand-is-n", node(replaced(TWO_BANDS, 4, rec(3, BOOL, 0, 6)), 5), "refused 6 record 4")
     refused("23-reads-itself", node(replaced(TWO_BANDS, 4, rec(3, BOOL, 0, 4)), 5), "refused 23 record 4")
-    # 1 = 0 and 2, 2 = not 1; the property only waits for them
+    # 1 = 3 and 2, 2 = not 1; the property only waits for them
     loop = [rec(2, BOOL, 2), rec(3, BOOL, 3, 2), rec(2, BOOL, 1), INPUT]
     refused("23-property-waits", node(loop, 0), "refused 23 record 0")
     refused("23-with-note", node(loop, 0, node(TWO_BANDS, 5)), "refused 23 record 0")
