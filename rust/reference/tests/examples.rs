@@ -159,8 +159,14 @@ fn crews_hand_their_minutes_over() {
 fn the_property_may_stand_first() {
     let given_up = [[0], [0], [1], [0], [0], [0]];
     assert_eq!(run("property-first", &given_up, 0), [1; 6]);
-    assert_eq!(run("property-first", &given_up, 1), run("handover", &given_up, 4));
-    assert_eq!(run("property-first", &given_up, 2), run("handover", &given_up, 5));
+    assert_eq!(
+        run("property-first", &given_up, 1),
+        run("handover", &given_up, 4)
+    );
+    assert_eq!(
+        run("property-first", &given_up, 2),
+        run("handover", &given_up, 5)
+    );
     let file = named("property-first").node;
     let node = node::read(&file).unwrap();
     assert_eq!(node.order(), [4, 5, 1, 0, 6, 2, 7, 3]);
