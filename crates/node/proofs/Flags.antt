@@ -11,7 +11,7 @@ use native.Mathlib.Decide.{ℕ-discrete}
 use native.Mathlib.Omega.{arith}
 use borrow.Author.Tests.{ltb-true, eq-eqb, ne-eqb}
 use lib.Dec.{eqb, ltb}
-use lib.ListN.{length, getD, set, replicate, length-replicate, getD-replicate, List·getD-eq-default}
+use lib.ListN.{length, getD, set, replicate, getD-replicate, List·getD-append}
 use lib.Seq.{getD-set-same, getD-set-other}
 use Rattle.answers.specs.Checks.{lowest}
 use Rattle.answers.proofs.Tests.{both-true}
@@ -22,7 +22,7 @@ use Rattle.node.specs.declared.table.Row.{Row}
 use Rattle.node.specs.Equations.{decoded}
 use Rattle.node.specs.Layout.{recordOf}
 use Rattle.node.specs.Order.{isAmong, allAmong, isReady}
-use Rattle.node.specs.Ordering.{neededAs, packed, packedNeeds, isFlagged, readyBy, HoldNeeds}
+use Rattle.node.specs.Ordering.{noStream, neededAs, packed, packedNeeds, isFlagged, readyBy, HoldNeeds}
 use Rattle.node.specs.Reads.{Read, reading, rowReads, neededIn, neededNow}
 use Rattle.node.specs.Rules.{shapeOk, isStream, operandsOk}
 use Rattle.node.specs.Table.{rowOf}
@@ -56,39 +56,51 @@ module _ (a b c : ℕ) (la : a ≤ 64) (lb : b ≤ 64) (lc : c ≤ 64) where
 
 -- ---- flags
 
--- flags that say of each record whether it is placed
+-- flags that say of each record whether it is placed, and of what is no stream that it is
 pub record Flagging (flags order : List ℕ) : Type 0 where
-  pub size : length flags ≡ 64
+  pub size : length flags ≡ 128
   pub says : (x : ℕ) → x < 64 → isFlagged flags x ≡ isAmong order x
+  pub none : isFlagged flags noStream ≡ true
 
-pub flagging-none : Flagging (replicate 64 0) []
+-- before the first turn
+abbrev pub nonePlaced : List ℕ
+nonePlaced = replicate 64 0 ++ replicate 64 1
+
+pub flagging-none : Flagging nonePlaced []
 unfolding isAmong
-flagging-none = record { size = length-replicate {A = ℕ} 64 0; says = λ x l. rw (getD-replicate {A = ℕ} 64 x 0 1 l) }
+flagging-none =
+    record {
+      size = refl;
+      says = λ x l. rw (List·getD-append {A = ℕ} (replicate 64 0) (replicate 64 1) 0 x l, getD-replicate {A = ℕ} 64 x 0 0 l);
+      none = refl;
+    }
 
 pub flagged-set : (flags : List ℕ) (i x : ℕ) → i < length flags → isFlagged flags x ≡ true → isFlagged (set flags i 1) x ≡ true
 flagged-set flags i x l e = go (ℕ-discrete x i)
   where
     go : Dec (x ≡ i) → isFlagged (set flags i 1) x ≡ true
-    go (yes p) = rw (p, getD-set-same flags i 1 1 l)
-    go (no n) = rw (getD-set-other flags i x 1 1 n) e
+    go (yes p) = rw (p, getD-set-same flags i 1 0 l)
+    go (no n) = rw (getD-set-other flags i x 1 0 n) e
 
 pub flagged-own : (flags : List ℕ) (i : ℕ) → i < length flags → isFlagged (set flags i 1) i ≡ true
-flagged-own flags i l = rw (getD-set-same flags i 1 1 l)
+flagged-own flags i l = rw (getD-set-same flags i 1 0 l)
 
 module _ (flags order : List ℕ) (flagging : Flagging flags order) where
-  pub flagging-more : (i : ℕ) → i < 64 → length (set flags i 1) ≡ 64 → Flagging (set flags i 1) (order ++ (i ∷ []))
-  flagging-more i l size = record { size = size; says = λ x m. go x m (ℕ-discrete x i) }
+  pub flagging-more : (i : ℕ) → i < 64 → length (set flags i 1) ≡ 128 → Flagging (set flags i 1) (order ++ (i ∷ []))
+  flagging-more i l size =
+      record {
+        size = size;
+        says = λ x m. go x m (ℕ-discrete x i);
+        none = flagged-set flags i noStream (omega (arith, flagging .size)) (flagging .none);
+      }
     where
       go : (x : ℕ) → x < 64 → Dec (x ≡ i) → isFlagged (set flags i 1) x ≡ isAmong (order ++ (i ∷ [])) x
       go x m (yes p) = rw p (flagged-own flags i (omega (arith, flagging .size)) ∙ sym (among-append order i i ∙ or-right (isAmong order i) (eq-eqb i i refl)))
       go x m (no n) =
-          rw (getD-set-other flags i x 1 1 n)
+          rw (getD-set-other flags i x 1 0 n)
           (flagging .says x m ∙ sym (among-append order i x ∙ rw (ne-eqb i x (λ p. n (sym p))) (or-false (isAmong order x))))
 
   -- ---- one operand, as the row reads it
-
-  no-stream : isFlagged flags 64 ≡ true
-  no-stream = rw (List·getD-eq-default flags 1 {n = 64} (omega (arith, flagging .size)))
 
   module _ (n : ℕ) (few : n ≤ 64) where
     needed-small : (operand : Operand) (x : ℕ) → isStream operand n x ≡ true → neededAs operand x ≤ 64
@@ -97,13 +109,13 @@ module _ (flags order : List ℕ) (flagging : Flagging flags order) where
     needed-small (Before wanted) x e = omega arith
 
     operand-is : (operand : Operand) (x : ℕ) → isStream operand n x ≡ true → allAmong order (neededIn (reading operand x)) ≡ isFlagged flags (neededAs operand x)
-    operand-is Unused x e = sym no-stream
+    operand-is Unused x e = sym (flagging .none)
     operand-is (Now wanted) x e = and-true (isAmong order x) ∙ sym (flagging .says x (omega (arith, ltb-true x n e)))
       where
         and-true : (b : Bool) → (b && true) ≡ b
         and-true true = refl
         and-true false = refl
-    operand-is (Before wanted) x e = sym no-stream
+    operand-is (Before wanted) x e = sym (flagging .none)
 
     -- ---- a record
 

@@ -23,7 +23,7 @@ use Rattle.node.specs.Order.{isAmong, isReady, lowestReady, followedBy, 
 use Rattle.node.specs.Ordering.{isFlagged, AllFlagged, readyBy, HoldNeeds}
 use Rattle.node.specs.Reads.{needsOf, workedOutOrder}
 use Rattle.node.specs.Verdict.{passesOf, neverPlaced}
-use Rattle.node.proofs.Flags.{Flagging, flagging-none, flagging-more, flagged-set, flagged-own, ready-is}
+use Rattle.node.proofs.Flags.{Flagging, nonePlaced, flagging-none, flagging-more, flagged-set, flagged-own, ready-is}
 use Rattle.node.proofs.Placing.{next-ready, full-size}
 
 module _ (file : List ℕ) (n : ℕ) where
@@ -40,7 +40,7 @@ module _ (file : List ℕ) (n : ℕ) where
     pub flagging : Flagging flags (soFar k)
     pub below : AllFlagged flags low
 
-  pub searching-start : Searching (replicate 64 0) (replicate 64 0) 0 0
+  pub searching-start : Searching (replicate 64 0) nonePlaced 0 0
   unfolding orderAfter
   searching-start =
       record {

@@ -38,9 +38,9 @@ unfoldable pub packedNeeds : Record → ℕ
 packedNeeds r =
     packed (neededAs (rowOf (r .op) .a) (r .a)) (neededAs (rowOf (r .op) .b) (r .b)) (neededAs (rowOf (r .op) .c) (r .c))
 
--- the flag of stream x: 1 where it is placed. One past the end is no stream
+-- the flag of stream x: 1 where it is placed. There are 128 flags, so that any part of a packed number has one
 abbrev pub isFlagged : (flags : List ℕ) → (x : ℕ) → Bool
-isFlagged flags x = eqb (getD flags x 1) 1
+isFlagged flags x = eqb (getD flags x 0) 1
 
 -- the first k are placed
 abbrev pub AllFlagged : (flags : List ℕ) → (k : ℕ) → Type 0

@@ -92,6 +92,138 @@ pub const RECORD_ORDER: [usize; 64] = [
     63,
 ];
 
+// The flags before the first turn: no stream is placed. What is no stream counts as placed.
+const NONE_PLACED: [u8; 128] = [
+    0,
+    0,
+    0,
+    0,
+    0,
+    0,
+    0,
+    0,
+    0,
+    0,
+    0,
+    0,
+    0,
+    0,
+    0,
+    0,
+    0,
+    0,
+    0,
+    0,
+    0,
+    0,
+    0,
+    0,
+    0,
+    0,
+    0,
+    0,
+    0,
+    0,
+    0,
+    0,
+    0,
+    0,
+    0,
+    0,
+    0,
+    0,
+    0,
+    0,
+    0,
+    0,
+    0,
+    0,
+    0,
+    0,
+    0,
+    0,
+    0,
+    0,
+    0,
+    0,
+    0,
+    0,
+    0,
+    0,
+    0,
+    0,
+    0,
+    0,
+    0,
+    0,
+    0,
+    0,
+    1,
+    1,
+    1,
+    1,
+    1,
+    1,
+    1,
+    1,
+    1,
+    1,
+    1,
+    1,
+    1,
+    1,
+    1,
+    1,
+    1,
+    1,
+    1,
+    1,
+    1,
+    1,
+    1,
+    1,
+    1,
+    1,
+    1,
+    1,
+    1,
+    1,
+    1,
+    1,
+    1,
+    1,
+    1,
+    1,
+    1,
+    1,
+    1,
+    1,
+    1,
+    1,
+    1,
+    1,
+    1,
+    1,
+    1,
+    1,
+    1,
+    1,
+    1,
+    1,
+    1,
+    1,
+    1,
+    1,
+    1,
+    1,
+    1,
+    1,
+    1,
+    1,
+    1,
+    1,
+];
+
 // An operand that is read is below n and, where it is needed now, lower than its record.
 fn is_lower(operand: Operand, n: usize, i: usize, x: usize) -> bool
     ensures { λ r. ⌜ r ≡ isLower operand n i x ⌝ }
@@ -170,16 +302,17 @@ fn needs_of_all(file: &[u8], n: usize) -> [usize; 64]
     needs
 }
 
-// Whether stream x is placed; what is no stream counts as placed.
+// Whether stream x is placed.
 fn is_placed(flags: &[u8], x: usize) -> bool
+    requires { ⌜ x < length (now flags) ⌝ }
     ensures { λ r. ⌜ r ≡ isFlagged (now (flags .entry)) x ⌝ }
 {
-    if x < flags.len() { flags[x] == 1 } else { true }
+    flags[x] == 1
 }
 
 // Whether record i can be placed next.
 fn is_ready(flags: &[u8], needs: &[usize], i: usize) -> bool
-    requires { ⌜ i < length (now needs) ⌝ }
+    requires { ⌜ (length (now flags) ≡ 128) × (i < 64) × (length (now needs) ≡ 64) ⌝ }
     ensures { λ r. ⌜ r ≡ readyBy (now (flags .entry)) (now (needs .entry)) i ⌝ }
 {
     if is_placed(flags, i) {
@@ -195,7 +328,7 @@ fn is_ready(flags: &[u8], needs: &[usize], i: usize) -> bool
 
 // The lowest of n records that can be placed next, where none below `low` can.
 fn lowest_ready(flags: &[u8], needs: &[usize], low: usize, n: usize) -> Found
-    requires { ⌜ (low ≤ n) × (n ≤ length (now needs)) × AllFlagged (now flags) low ⌝ }
+    requires { ⌜ (low ≤ n) × (n ≤ 64) × (length (now flags) ≡ 128) × (length (now needs) ≡ 64) × AllFlagged (now flags) low ⌝ }
     ensures { λ r. ⌜ r ≡ lowest (λ i. not (readyBy (now (flags .entry)) (now (needs .entry)) i)) n ⌝ }
 {
     let mut i = low;
@@ -210,7 +343,7 @@ fn lowest_ready(flags: &[u8], needs: &[usize], low: usize, n: usize) -> Found
 
 // The lowest of n records that is not placed, where all below `low` are.
 fn lowest_unplaced(flags: &[u8], low: usize, n: usize) -> Found
-    requires { ⌜ (low ≤ n) × AllFlagged (now flags) low ⌝ }
+    requires { ⌜ (low ≤ n) × (n ≤ length (now flags)) × AllFlagged (now flags) low ⌝ }
     ensures { λ r. ⌜ r ≡ lowest (isFlagged (now (flags .entry))) n ⌝ }
 {
     let mut i = low;
@@ -231,7 +364,7 @@ pub fn searched_order(file: &[u8], n: usize) -> Order
 {
     let needs = needs_of_all(file, n);
     let mut streams = [0usize; 64];
-    let mut flags = [0u8; 64];
+    let mut flags = NONE_PLACED;
     let mut low = 0;
     let mut k = 0;
     while k < n {

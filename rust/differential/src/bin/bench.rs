@@ -273,11 +273,12 @@ fn instants(what: &str, node: &NodeFile, inputs: &[i64]) {
 }
 
 /// The same pass with the last record first, and with the property first, a
-/// stream that came late. The inputs are all the same number.
+/// stream that came late and needs another now. The inputs are all the same
+/// number.
 fn orders(node: &NodeFile, inputs: &[i64]) {
     let size = node.records.len() as u16;
     let numbered = (0..size).zip(&node.records);
-    let bools = numbered.filter(|(_, record)| record.type_byte == BOOL);
+    let bools = numbered.filter(|(_, record)| record.type_byte == BOOL && record.operator >= 2);
     let late = bools.map(|(stream, _)| stream).max().unwrap_or(0);
     for (what, other) in [
         ("last record first", Renumbering::reversed(size)),

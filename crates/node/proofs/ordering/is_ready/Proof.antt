@@ -1,13 +1,14 @@
 -- `node::is_ready` meets its contract: each test in its turn.
 -- Assumes nothing.
 use Rattle.node.specs.Ordering.{readyBy}
+use native.Mathlib.Omega.{arith}
 use borrow.Author.Tests.{not-true, not-false}
 use borrow.Author.Needs.{needs}
 use Rattle.node.proofs.ordering.is_ready.Statement.{statement}
 use Rattle.node.proofs.ordering.is_ready.Tie as tie
 
 is-placed-requires : tie.Need-is-placed-requires
-is-placed-requires c κs = search needs
+is-placed-requires c κs = let pre = c .before .before .pre in omega (arith, pre .0, pre .1)
 
 returns : tie.Need-returns
 unfolding readyBy

@@ -19,7 +19,7 @@ abbrev μ-loop : tie.MeasureT-loop
 μ-loop flags needs low n i₀ i = n - i
 
 loop-holds : tie.Need-loop-holds Inv-loop μ-loop
-loop-holds c = let s = c .before .before in (s .pre .0, λ k l. placed-waits _ _ k (s .pre .2 k l))
+loop-holds c = let s = c .before .before in (s .pre .0, λ k l. placed-waits _ _ k (s .pre .4 k l))
 
 is-ready-requires : tie.Need-is-ready-requires Inv-loop μ-loop
 is-ready-requires c κs = search needs

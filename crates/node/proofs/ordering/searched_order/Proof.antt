@@ -37,7 +37,7 @@ lowest-ready-requires c κs =
     let at = c .before .before .before in
     let inv = at .loop .inv in
     let room : length (at .before .needs-of-all .result) ≡ 64 = search needs in
-    (inv .within .1, omega (arith, room, at .before .before .before .pre .1), inv .below)
+    (inv .within .1, at .before .before .before .pre .1, inv .flagging .size, room, inv .below)
 
 -- the record that was found is the definition's next
 found-is : (c : tie.After-lowest-ready Inv-loop μ-loop) → let at = c .before .before .before .before in let a = at .before .before .before .args in lowestReady (needsOf (now (a .file))) (a .n) (orderAfter (needsOf (now (a .file))) (a .n) (at .loop .k)) ≡ c .lowest-ready .result
@@ -58,8 +58,9 @@ slice-aggregate-lowest-unplaced c = search needs
 
 lowest-unplaced-requires : tie.Need-lowest-unplaced-requires Inv-loop μ-loop
 lowest-unplaced-requires c κs =
-    let inv = c .before .before .before .before .before .before .before .loop .inv in
-    (inv .within .1, inv .below)
+    let at = c .before .before .before .before .before .before .before in
+    let inv = at .loop .inv in
+    (inv .within .1, omega (arith, at .before .before .before .pre .1, inv .flagging .size), inv .below)
 
 returns : tie.Need-returns Inv-loop μ-loop
 returns c =
@@ -109,8 +110,9 @@ slice-aggregate-lowest-unplaced-2 c = search needs
 
 lowest-unplaced-requires-2 : tie.Need-lowest-unplaced-requires-2 Inv-loop μ-loop
 lowest-unplaced-requires-2 c κs =
-    let inv = c .before .before .loop .inv in
-    (inv .within .1, inv .below)
+    let at = c .before .before in
+    let inv = at .loop .inv in
+    (inv .within .1, omega (arith, at .before .before .before .pre .1, inv .flagging .size), inv .below)
 
 returns-2 : tie.Need-returns-2 Inv-loop μ-loop
 returns-2 c =
