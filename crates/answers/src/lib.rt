@@ -35,7 +35,7 @@ pub enum InstantVerdict {
     Refused(usize, Place),
 }
 
-// What a search over records, constraints or streams finds: the lowest at fault, or nothing.
+// What a search over records, constraints or streams finds: the first in its order, or nothing.
 pub enum Found {
     At(usize),
     Nothing,

@@ -25,7 +25,7 @@ pub extern "C" fn conuhawe_check(node: &[u8], cert: &[u8]) -> Told
     told_certificate(certificate::verdict(node, cert))
 }
 
-// How many leading bytes of a node file are its note; 0 where 1 to 8 refuse it.
+// How many leading bytes of a node file are its note; 0 where 1 to 8 or 23 refuse it.
 #[no_mangle]
 pub extern "C" fn conuhawe_node_note(node: &[u8]) -> usize
     ensures { λ r. ⌜ r ≡ nodeNoteLength (now (node .entry)) ⌝ }

@@ -1,4 +1,4 @@
--- What rules 1 to 8 and 11 to 15 leave, put together for the checks of lines.
+-- What rules 1 to 8, 23 and 11 to 15 leave, put together for the checks of lines.
 -- Assumes nothing.
 use mathlib.Core.Path.{_≡_, refl, sym, _∙_, ap, ap₂, fun-ext}
 use mathlib.Core.List.{List}

@@ -1,4 +1,4 @@
--- What the checks of lines count on: rules 1 to 8 and 11 to 15 have passed, and what was read of them is at hand.
+-- What the checks of lines count on: rules 1 to 8, 23 and 11 to 15 have passed, and what was read of them is at hand.
 use Prim.Native.Nat.{ℕ, _+_, _*_, _≤_}
 use mathlib.Core.Path.{_≡_}
 use mathlib.Core.Bool.{true}
@@ -17,7 +17,7 @@ use Rattle.certificate.specs.declared.reading.Opened.{Opened}
 use Rattle.certificate.specs.declared.reading.Opened.the-variants.{Passed, Refused}
 use Rattle.certificate.specs.Frame.{frameOf}
 
--- rules 1 to 8 have passed, and the node's sizes are at hand
+-- rules 1 to 8 and 23 have passed, and the node's sizes are at hand
 pub record NodePassed (node : List ℕ) (n property : ℕ) : Type 0 where
   pub streams : n ≡ streamsOf node
   pub property-is : property ≡ propertyOf node

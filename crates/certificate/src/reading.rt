@@ -65,7 +65,7 @@ fn opening(node: &[u8], cert: &[u8], types: &[u8]) -> Opened
     constraints_opening(node, cert, types, t)
 }
 
-// Rules 11 to 21, where 1 to 8 have passed.
+// Rules 11 to 22, where 1 to 8 and 23 have passed.
 fn certificate_verdict(node: &[u8], cert: &[u8], n: usize, property: u16) -> CertificateVerdict
     requires { ⌜ NodePassed (now node) n property ⌝ }
     ensures { λ r. ⌜ certificateAnswer r ≡ andThen (fileVerdict (now (node .entry)) (now (cert .entry))) (linesVerdict (now (node .entry)) (now (cert .entry))) ⌝ }

@@ -1,7 +1,7 @@
 -- 23 is given just where some chain of operands needed now returns to its start.
 -- Assumes nothing.
 use mathlib.Core.Path.{_≡_, refl, sym, _∙_, ap}
-use mathlib.Core.Bool.{Bool, true, _&&_, false≢true}
+use mathlib.Core.Bool.{true, false≢true}
 use mathlib.Core.List.{List}
 use Prim.Native.Nat.{ℕ, _<_}
 use native.Mathlib.Omega.{arith}
@@ -12,21 +12,19 @@ use Rattle.answers.specs.declared.Place.{Place}
 use Rattle.answers.specs.declared.Place.the-variants.{Record as AtRecord}
 use Rattle.answers.specs.Answer.{refused}
 use Rattle.answers.proofs.Lowest.{none, all}
-use Rattle.answers.proofs.Tests.{both-true}
 use Rattle.node.specs.declared.layout.Record.{Record}
 use Rattle.node.specs.declared.reading.RecordRule.the-variants.{Shape, Operands}
 use Rattle.node.specs.declared.table.Operand.{Operand}
 use Rattle.node.specs.declared.table.Operand.the-variants.{Unused, Now, Before}
-use Rattle.node.specs.declared.table.Row.{Row}
 use Rattle.node.specs.Layout.{streamsOf, recordOf}
 use Rattle.node.specs.Order.{isAmong, Circle}
-use Rattle.node.specs.Outcome.{FileRules, AllKeep, NeverPlaced, FirstFailure, at-1, at-2, at-3, at-4, at-5, at-6, at-23, at-7, at-8, CircleRefused}
+use Rattle.node.specs.Outcome.{FileRules, AllKeep, FirstFailure, at-1, at-2, at-3, at-4, at-5, at-6, at-23, at-7, at-8, CircleRefused}
 use Rattle.node.specs.Reads.{reading, rowReads, All, needsOf, orderOf}
 use Rattle.node.specs.Rules.{isStream, operandsOk}
 use Rattle.node.specs.Table.{rowOf}
-use Rattle.node.specs.Verdict.{passesOf, neverPlaced, recordsVerdict, verdictOf}
+use Rattle.node.specs.Verdict.{neverPlaced, recordsVerdict, verdictOf}
 use Rattle.node.proofs.Circles.{placed-no-circle, unplaced-circle}
-use Rattle.node.proofs.Needs.{by-operand, OfNeeded, needed-of, needed-is}
+use Rattle.node.proofs.Needs.{by-operand, operand-streams, OfNeeded, needed-of, needed-is}
 use Rattle.node.proofs.Outcomes.{refused-first}
 
 reads-below : (operand : Operand) (n x : ℕ) → isStream operand n x ≡ true → All (OfNeeded (λ y. y < n)) (reading operand x)
@@ -35,14 +33,10 @@ reads-below (Now wanted) n x e = (λ now. ltb-true x n e, tt)
 reads-below (Before wanted) n x e = (λ now. absurd (false≢true now), tt)
 
 needs-below : (n : ℕ) (r : Record) → operandsOk n r ≡ true → All (OfNeeded (λ y. y < n)) (rowReads (rowOf (r .op)) r)
-unfolding operandsOk
 needs-below n r ok =
     let row = rowOf (r .op) in
-    let a = isStream (row .a) n (r .a) in
-    let b = isStream (row .b) n (r .b) in
-    let two = both-true (a && b) (isStream (row .c) n (r .c)) ok in
-    let one = both-true a b (two .0) in
-    by-operand (OfNeeded (λ y. y < n)) row r (reads-below (row .a) n (r .a) (one .0)) (reads-below (row .b) n (r .b) (one .1)) (reads-below (row .c) n (r .c) (two .1))
+    let streams = operand-streams n r ok in
+    by-operand (OfNeeded (λ y. y < n)) row r (reads-below (row .a) n (r .a) (streams .0)) (reads-below (row .b) n (r .b) (streams .1)) (reads-below (row .c) n (r .c) (streams .2))
 
 module _ (s : List ℕ) where
   abbrev n : ℕ

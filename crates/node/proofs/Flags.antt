@@ -1,38 +1,28 @@
 -- Flags of placed records, and what records need as packed numbers, against the order so far: the tests that are made of them are the
 -- definition's.
 -- Assumes nothing.
-use mathlib.Core.Path.{_≡_, refl, sym, _∙_, ap, subst}
-use mathlib.Core.Logic.{⊎-elim}
-use mathlib.Core.Bool.{Bool, true, false, not, cond, _&&_, _||_, or-false}
+use mathlib.Core.Path.{_≡_, refl, sym, _∙_, ap}
+use mathlib.Core.Bool.{Bool, true, false, not, cond, _&&_, or-false}
 use mathlib.Core.List.{List, [], _∷_, _++_}
-use Prim.Native.Nat.{ℕ, zero, suc, _+_, _*_, _/_, _%_, _<_, _≤_}
-use native.Mathlib.Nat.{not-suc-le-zero, le-of-suc-le-suc, eq-or-lt-of-le}
+use Prim.Native.Nat.{ℕ, _+_, _<_, _≤_}
 use native.Mathlib.Decide.{ℕ-discrete}
 use native.Mathlib.Omega.{arith}
 use borrow.Author.Tests.{ltb-true, eq-eqb, ne-eqb}
-use lib.Dec.{eqb, ltb}
 use lib.ListN.{length, getD, set, replicate, getD-replicate, List·getD-append}
 use lib.Seq.{getD-set-same, getD-set-other}
-use Rattle.answers.specs.Checks.{lowest}
-use Rattle.answers.proofs.Tests.{both-true}
 use Rattle.node.specs.declared.layout.Record.{Record}
 use Rattle.node.specs.declared.table.Operand.{Operand}
 use Rattle.node.specs.declared.table.Operand.the-variants.{Unused, Now, Before}
 use Rattle.node.specs.declared.table.Row.{Row}
 use Rattle.node.specs.Equations.{decoded}
 use Rattle.node.specs.Layout.{recordOf}
-use Rattle.node.specs.Order.{isAmong, allAmong, isReady}
-use Rattle.node.specs.Ordering.{noStream, neededAs, packed, packedNeeds, isFlagged, readyBy, HoldNeeds}
-use Rattle.node.specs.Reads.{Read, reading, rowReads, neededIn, neededNow}
+use Rattle.node.specs.Order.{isAmong, allAmong}
+use Rattle.node.specs.Ordering.{noStream, neededAs, packed, firstPart, secondPart, thirdPart, packedNeeds, HoldNeeds, isFlagged, readyBy}
+use Rattle.node.specs.Reads.{Read, reading, neededIn, neededNow}
 use Rattle.node.specs.Rules.{shapeOk, isStream, operandsOk}
 use Rattle.node.specs.Table.{rowOf}
 use Rattle.node.proofs.Different.{among-append, or-right}
-use Rattle.node.proofs.Needs.{needed-is}
-
--- a placed record is not ready
-pub placed-waits : (flags needs : List ℕ) (i : ℕ) → isFlagged flags i ≡ true → not (readyBy flags needs i) ≡ true
-unfolding readyBy
-placed-waits flags needs i e = rw e
+use Rattle.node.proofs.Needs.{operand-streams, needed-is}
 
 -- the needs of one record more
 pub needs-more : (file needs : List ℕ) (i : ℕ) {made : ℕ} → HoldNeeds file i needs → i < length needs → made ≡ packedNeeds (recordOf file i) → HoldNeeds file (i + 1) (set needs i made)
@@ -45,13 +35,13 @@ needs-more file needs i {made} hold l e k h = go (ℕ-discrete k i)
 -- ---- three operands in one number
 
 module _ (a b c : ℕ) (la : a ≤ 64) (lb : b ≤ 64) (lc : c ≤ 64) where
-  unpacked-a : packed a b c % 128 ≡ a
+  unpacked-a : firstPart (packed a b c) ≡ a
   unpacked-a = omega arith
 
-  unpacked-b : packed a b c / 128 % 128 ≡ b
+  unpacked-b : secondPart (packed a b c) ≡ b
   unpacked-b = omega arith
 
-  unpacked-c : packed a b c / 16384 % 128 ≡ c
+  unpacked-c : thirdPart (packed a b c) ≡ c
   unpacked-c = omega arith
 
 -- ---- flags
@@ -139,13 +129,7 @@ module _ (flags order : List ℕ) (flagging : Flagging flags order) where
       flag operand x = isFlagged flags (neededAs operand x)
 
       streams : (isStream (row .a) n (r .a) ≡ true) × (isStream (row .b) n (r .b) ≡ true) × (isStream (row .c) n (r .c) ≡ true)
-      unfolding operandsOk
-      streams =
-          let a = isStream (row .a) n (r .a) in
-          let b = isStream (row .b) n (r .b) in
-          let two = both-true (a && b) (isStream (row .c) n (r .c)) operands in
-          let one = both-true a b (two .0) in
-          (one .0, one .1, two .1)
+      streams = operand-streams n r operands
 
       all-placed : allAmong order (neededNow (decoded r)) ≡ (flag (row .a) (r .a) && (flag (row .b) (r .b) && flag (row .c) (r .c)))
       all-placed =
@@ -163,9 +147,9 @@ module _ (flags order : List ℕ) (flagging : Flagging flags order) where
           let la = needed-small (row .a) (r .a) (streams .0) in
           let lb = needed-small (row .b) (r .b) (streams .1) in
           let lc = needed-small (row .c) (r .c) (streams .2) in
-          rw (e, unpacked-a a b c la lb lc, unpacked-b a b c la lb lc, unpacked-c a b c la lb lc, flagging .says i l, all-placed) (regroup (not (isAmong order i)) _ _ _)
+          rw (e, unpacked-a a b c la lb lc, unpacked-b a b c la lb lc, unpacked-c a b c la lb lc, flagging .says i l, all-placed) (regroup (not (isAmong order i)) (flag (row .a) (r .a)) (flag (row .b) (r .b)) (flag (row .c) (r .c)))
         where
-          regroup : (p q s t : Bool) → (((p && q) && s) && t) ≡ (p && (q && (s && t)))
+          regroup : (p q s t : Bool) → (p && ((q && s) && t)) ≡ (p && (q && (s && t)))
           regroup true true s t = refl
           regroup true false s t = refl
           regroup false q s t = refl

@@ -14,6 +14,7 @@ pub mod Placing
 pub mod RecordOrder
 pub mod Records
 pub mod Searching
+pub mod Starting
 pub mod WellFormedness
 pub mod WithoutNote
 pub mod Written

@@ -1,22 +1,22 @@
 -- What an equation needs now, from the row of its record; and the worked-out order of equations of which all are placed.
 -- Assumes nothing.
-use mathlib.Core.Path.{_≡_, refl, sym, _∙_, ap}
+use mathlib.Core.Path.{_≡_, refl, sym, _∙_}
 use mathlib.Core.Logic.{⊎-elim}
-use mathlib.Core.Bool.{Bool, true, false, cond, _||_, false≢true}
+use mathlib.Core.Bool.{Bool, true, false, cond, _&&_, false≢true}
 use mathlib.Core.List.{List, [], _∷_, _++_}
 use Prim.Native.Nat.{ℕ, _<_}
 use native.Mathlib.Omega.{arith}
 use borrow.Author.Tests.{eqb-true, eq-eqb}
 use lib.Dec.{eqb}
 use lib.ListN.{length}
-use Rattle.answers.proofs.Tests.{either-true}
+use Rattle.answers.proofs.Tests.{both-true, either-true}
 use Rattle.node.specs.declared.equation.Equation.{Equation}
 use Rattle.node.specs.declared.layout.Record.{Record}
 use Rattle.node.specs.declared.table.Row.{Row}
 use Rattle.node.specs.Equations.{decoded}
 use Rattle.node.specs.Order.{isAmong, placeIn}
 use Rattle.node.specs.Reads.{Read, reading, rowReads, rowFor, reads, neededIn, neededNow, workedOutOrder, All, Ordered}
-use Rattle.node.specs.Rules.{shapeOk}
+use Rattle.node.specs.Rules.{shapeOk, isStream, operandsOk}
 use Rattle.node.specs.Table.{rowOf}
 use Rattle.node.proofs.Different.{names, once, place-below, at-place, or-left, or-right}
 use Rattle.node.proofs.Encoding.{by-record}
@@ -29,6 +29,17 @@ all-append P (x ∷ xs) ys ps qs = (ps .0, all-append P xs ys (ps .1) qs)
 -- what holds of each operand holds of all that a row reads
 pub by-operand : (P : Read → Type 0) (row : Row) (r : Record) → All P (reading (row .a) (r .a)) → All P (reading (row .b) (r .b)) → All P (reading (row .c) (r .c)) → All P (rowReads row r)
 by-operand P row r a b c = all-append P (reading (row .a) (r .a)) _ a (all-append P (reading (row .b) (r .b)) _ b c)
+
+-- rule 6, operand by operand
+pub operand-streams : (n : ℕ) (r : Record) → operandsOk n r ≡ true → let row = rowOf (r .op) in (isStream (row .a) n (r .a) ≡ true) × (isStream (row .b) n (r .b) ≡ true) × (isStream (row .c) n (r .c) ≡ true)
+unfolding operandsOk
+operand-streams n r ok =
+    let row = rowOf (r .op) in
+    let a = isStream (row .a) n (r .a) in
+    let b = isStream (row .b) n (r .b) in
+    let two = both-true (a && b) (isStream (row .c) n (r .c)) ok in
+    let one = both-true a b (two .0) in
+    (one .0, one .1, two .1)
 
 -- P of each stream that is read and needed now
 abbrev pub OfNeeded : (P : ℕ → Type 0) → Read → Type 0
@@ -61,7 +72,7 @@ pub needed-is : (r : Record) → shapeOk r ≡ true → neededNow (decoded r) �
 unfolding neededNow reads rowFor
 needed-is r e = by-record (λ x. neededIn (rowReads (rowOf (x .op)) x) ≡ neededIn (rowReads (rowOf (r .op)) r)) r e refl
 
--- "the order has each record once and each after all it needs now"
+-- the order has each record once, and each after all that it needs now
 module _ (equations : ℕ → Equation) (n : ℕ) (all-placed : (i : ℕ) → i < n → isAmong (workedOutOrder equations n) i ≡ true) where
   abbrev needs : ℕ → List ℕ
   needs i = neededNow (equations i)

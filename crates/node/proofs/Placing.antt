@@ -2,17 +2,16 @@
 -- Assumes nothing.
 use mathlib.Core.Path.{_≡_, refl, sym, _∙_, ap, subst}
 use mathlib.Core.Logic.{_⊎_, inl, inr, ⊎-elim}
-use mathlib.Core.Bool.{Bool, true, false, not, _&&_, _||_, false≢true, true≢false}
+use mathlib.Core.Bool.{Bool, true, false, not, _&&_, false≢true, true≢false}
 use mathlib.Core.List.{List, [], _∷_, _++_}
 use Prim.Native.Nat.{ℕ, zero, suc, _<_, _≤_}
-use native.Mathlib.Nat.{not-suc-le-zero, eq-or-lt-of-le, le-of-suc-le-suc}
+use native.Mathlib.Nat.{eq-or-lt-of-le, le-of-suc-le-suc}
 use native.Mathlib.Omega.{arith}
 use borrow.Author.Tests.{eqb-true}
 use lib.Dec.{eqb}
 use lib.ListN.{length, length-append}
 use Rattle.answers.specs.declared.Found.{Found}
 use Rattle.answers.specs.declared.Found.the-variants.{At, Nothing}
-use Rattle.answers.specs.Checks.{Lowest}
 use Rattle.answers.proofs.Lowest.{all, first}
 use Rattle.answers.proofs.Tests.{both-true, either-true}
 use Rattle.node.specs.Order.{isAmong, allAmong, isReady, lowestReady, followedBy, extended, orderAfter, orderBy, placeIn}
@@ -22,7 +21,7 @@ not-false-true : (b : Bool) → not b ≡ false → b ≡ true
 not-false-true true e = refl
 not-false-true false e = absurd (true≢false e)
 
-not-true-false : (b : Bool) → not b ≡ true → b ≡ false
+pub not-true-false : (b : Bool) → not b ≡ true → b ≡ false
 not-true-false true e = absurd (false≢true e)
 not-true-false false e = refl
 

@@ -1,17 +1,15 @@
 -- The search for the order, one record after another: what the reader's arrays hold after k turns, and what they say at the end.
 -- Assumes nothing.
 use mathlib.Core.Path.{_≡_, refl, sym, _∙_, ap, subst}
-use mathlib.Core.Logic.{_⊎_, inl, inr, ⊎-elim}
-use mathlib.Core.Bool.{Bool, true, false, not, cond}
+use mathlib.Core.Bool.{true, not}
 use mathlib.Core.List.{List, [], _∷_, _++_}
-use Prim.Native.Nat.{ℕ, zero, suc, _+_, _<_, _≤_}
-use native.Mathlib.Nat.{not-suc-le-zero, eq-or-lt-of-le, le-of-suc-le-suc}
+use Prim.Native.Nat.{ℕ, suc, _+_, _<_, _≤_}
+use native.Mathlib.Nat.{not-suc-le-zero}
 use native.Mathlib.Numerals.{add-one}
 use native.Mathlib.Decide.{ℕ-discrete}
 use native.Mathlib.Omega.{arith}
 use lib.ListN.{length, getD, set, take, replicate, length-set, length-replicate, length-append, List·getD-append}
 use lib.Seq.{ext-getD, getD-set-same, getD-set-other, getD-take, length-take-le, getD-append-seam}
-use Rattle.answers.specs.declared.Found.{Found}
 use Rattle.answers.specs.declared.Found.the-variants.{At, Nothing}
 use Rattle.answers.specs.Checks.{every, lowest}
 use Rattle.answers.proofs.Every.{every-all}
@@ -20,10 +18,10 @@ use Rattle.node.specs.declared.reading.RecordRule.the-variants.{Shape, O
 use Rattle.node.specs.Equations.{equationAt}
 use Rattle.node.specs.Layout.{recordOf}
 use Rattle.node.specs.Order.{isAmong, isReady, lowestReady, followedBy, orderAfter, orderBy}
-use Rattle.node.specs.Ordering.{isFlagged, AllFlagged, readyBy, HoldNeeds}
+use Rattle.node.specs.Ordering.{HoldNeeds, isFlagged, readyBy}
 use Rattle.node.specs.Reads.{needsOf, workedOutOrder}
 use Rattle.node.specs.Verdict.{passesOf, neverPlaced}
-use Rattle.node.proofs.Flags.{Flagging, nonePlaced, flagging-none, flagging-more, flagged-set, flagged-own, ready-is}
+use Rattle.node.proofs.Flags.{Flagging, nonePlaced, flagging-none, flagging-more, ready-is}
 use Rattle.node.proofs.Placing.{next-ready, full-size}
 
 module _ (file : List ℕ) (n : ℕ) where
@@ -32,27 +30,25 @@ module _ (file : List ℕ) (n : ℕ) where
   soFar k = orderAfter (needsOf file) n k
 
   -- the arrays hold it
-  pub record Searching (streams flags : List ℕ) (low k : ℕ) : Type 0 where
-    pub within : (k ≤ n) × (low ≤ n)
+  pub record Searching (streams flags : List ℕ) (k : ℕ) : Type 0 where
+    pub within : k ≤ n
     pub room : length streams ≡ 64
     pub size : length (soFar k) ≡ k
     pub streams-are : (x : ℕ) → x < k → getD streams x 0 ≡ getD (soFar k) x 0
     pub flagging : Flagging flags (soFar k)
-    pub below : AllFlagged flags low
 
-  pub searching-start : Searching (replicate 64 0) nonePlaced 0 0
+  pub searching-start : Searching (replicate 64 0) nonePlaced 0
   unfolding orderAfter
   searching-start =
       record {
-        within = (omega arith, omega arith);
+        within = omega arith;
         room = length-replicate {A = ℕ} 64 0;
         size = refl;
         streams-are = λ x l. absurd (not-suc-le-zero l);
         flagging = flagging-none;
-        below = λ x l. absurd (not-suc-le-zero l);
       }
 
-  module _ (streams flags : List ℕ) (low k : ℕ) (searching : Searching streams flags low k) where
+  module _ (streams flags : List ℕ) (k : ℕ) (searching : Searching streams flags k) where
     -- the search of a turn is the definition's
     module _ (needs : List ℕ) (few : n ≤ 64) (shapes : every (passesOf file n Shape) n ≡ true) (operands : every (passesOf file n Operands) n ≡ true) (hold : HoldNeeds file n needs) where
       pub next-is : lowest (λ i. not (readyBy flags needs i)) n ≡ lowestReady (needsOf file) n (soFar k)
@@ -85,32 +81,16 @@ module _ (file : List ℕ) (n : ℕ) where
               let b : x < k = omega (arith, d) in
               getD-set-other streams k x i 0 d ∙ searching .streams-are x b ∙ sym (List·getD-append (soFar k) (i ∷ []) 0 x (omega (arith, searching .size)))
 
-      flags-room : i < length flags
-      flags-room = omega (arith, searching .flagging .size, next-below)
-
-      pub searching-more : (above : ℕ) → (above ≤ n) × AllFlagged (set flags i 1) above → Searching (set streams k i) (set flags i 1) above (k + 1)
-      searching-more above moved =
+      pub searching-more : Searching (set streams k i) (set flags i 1) (k + 1)
+      searching-more =
           rw (add-one k)
           record {
-            within = (l, moved .0);
+            within = l;
             room = length-set streams k i ∙ searching .room;
             size = more-size;
             streams-are = λ x m. streams-more x m ∙ ap (λ (o : List ℕ). getD o x 0) (sym more-is);
             flagging = subst (Flagging (set flags i 1)) (sym more-is) (flagging-more flags (soFar k) (searching .flagging) i (omega (arith, next-below)) (length-set flags i 1 ∙ searching .flagging .size));
-            below = moved .1;
           }
-
-      -- what was placed stays, and a record that was the lowest one not placed is
-      low-same : AllFlagged (set flags i 1) low
-      low-same x m = flagged-set flags i x flags-room (searching .below x m)
-
-      low-more : i ≡ low → AllFlagged (set flags i 1) (low + 1)
-      low-more e x m =
-          ⊎-elim (λ (p : x ≡ low). rw (p ∙ sym e) (flagged-own flags i flags-room)) (λ (b : x < low). low-same x b) (eq-or-lt-of-le (le-of-suc-le-suc (rw (add-one low) at m)))
-
-      pub low-moves : (above : ℕ) → ((i ≡ low) × (above ≡ low + 1)) ⊎ (above ≡ low) → (above ≤ n) × AllFlagged (set flags i 1) above
-      low-moves above (inl e) = (omega (arith, e .0, e .1, next-below), subst (AllFlagged (set flags i 1)) (sym (e .1)) (low-more (e .0)))
-      low-moves above (inr e) = (omega (arith, searching .within .1), subst (AllFlagged (set flags i 1)) (sym e) low-same)
 
     -- ---- at the end
 

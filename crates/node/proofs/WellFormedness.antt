@@ -18,12 +18,12 @@ use Rattle.node.specs.Equations.{typeOf, typeAmong, typeAt, equationAt, 
 use Rattle.node.specs.Layout.{streamsOf, recordOf, typeByteOf}
 use Rattle.node.specs.Outcome.{NodeRules}
 use Rattle.node.specs.Reads.{reading, rowReads, rowFor, reads, wantedType, All, ReadOk, InRange, WellFormedFile}
-use Rattle.node.specs.Rules.{isStream, operandsOk, hasType, typed, typesOk, propertyOk}
+use Rattle.node.specs.Rules.{isStream, hasType, typed, typesOk, propertyOk}
 use Rattle.node.specs.Table.{rowOf}
 use Rattle.node.specs.Verdict.{verdictOf}
 use Rattle.node.proofs.Encoding.{shape, by-record}
 use Rattle.node.proofs.FileRules.{sizes}
-use Rattle.node.proofs.Needs.{by-operand, ordered}
+use Rattle.node.proofs.Needs.{by-operand, operand-streams, ordered}
 use Rattle.node.proofs.Outcomes.{accepted-keeps}
 
 -- a type byte that is the wanted one stands for the wanted type
@@ -63,15 +63,10 @@ module _ (s : List ℕ) (rules : NodeRules s) (i : ℕ) (l : i < streamsOf s) wh
 
   -- rules 6 and 7
   operands-ok : All (ReadOk n (λ j. typeOf (typeByteOf s j)) i) (rowReads row r)
-  unfolding operandsOk
   operands-ok =
-      let a = isStream (row .a) n (r .a) in
-      let b = isStream (row .b) n (r .b) in
-      let c = isStream (row .c) n (r .c) in
-      let two = both-true (a && b) c (rules .operands i l) in
-      let one = both-true a b (two .0) in
+      let streams = operand-streams n r (rules .operands i l) in
       let ok = operand-ok n i (typeByteOf s) in
-      by-operand _ row r (ok (row .a) (r .a) (one .0) (types .1)) (ok (row .b) (r .b) (one .1) (types .2)) (ok (row .c) (r .c) (two .1) (types .3))
+      by-operand _ row r (ok (row .a) (r .a) (streams .0) (types .1)) (ok (row .b) (r .b) (streams .1) (types .2)) (ok (row .c) (r .c) (streams .2) (types .3))
 
   -- what the row says of the record, it says of the equation
   of-equation : (P : Record → Type 0) → P r → P (encoded (typeOf (r .ty)) (decoded r))

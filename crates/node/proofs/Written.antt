@@ -9,7 +9,7 @@ use native.Mathlib.Omega.{arith}
 use borrow.Author.Tests.{le-leb, lt-ltb, ltb-true, ltb-false, eq-eqb}
 use lib.Dec.{ltb}
 use lib.IntN.{ℤ, pos, negsuc, natAbs}
-use lib.ListN.{length, getD, List·getD-eq-default}
+use lib.ListN.{length, List·getD-eq-default}
 use lib.Signed.{mag}
 use Rattle.answers.specs.Answer.{Answer, accepted, refused, NodeValues}
 use Rattle.fields.proofs.Written.{u16-back, u32-back, i32-back}

@@ -1,7 +1,8 @@
--- How the reader works the order out: what a record needs now as one number, and which records are placed as a list of flags.
+-- How the reader works the order out: what a record needs now as one number, who needs a stream, and which records are placed as a
+-- list of flags.
 use mathlib.Core.Path.{_≡_}
-use Prim.Native.Nat.{ℕ, _<_, _+_, _*_, _/_, _%_}
-use mathlib.Core.Bool.{Bool, true, not, _&&_}
+use Prim.Native.Nat.{ℕ, _<_, _≤_, _+_, _*_, _/_, _%_}
+use mathlib.Core.Bool.{Bool, true, false, not, cond, _&&_}
 use mathlib.Core.List.{List}
 use lib.Dec.{ltb, eqb}
 use lib.ListN.{getD}
@@ -34,26 +35,46 @@ neededAs (Before wanted) x = noStream
 abbrev pub packed : (a b c : ℕ) → ℕ
 packed a b c = a + 128 * b + 16384 * c
 
+-- .. and back
+abbrev pub firstPart : ℕ → ℕ
+firstPart operands = operands % 128
+
+abbrev pub secondPart : ℕ → ℕ
+secondPart operands = operands / 128 % 128
+
+abbrev pub thirdPart : ℕ → ℕ
+thirdPart operands = operands / 16384 % 128
+
 unfoldable pub packedNeeds : Record → ℕ
 packedNeeds r =
     packed (neededAs (rowOf (r .op) .a) (r .a)) (neededAs (rowOf (r .op) .b) (r .b)) (neededAs (rowOf (r .op) .c) (r .c))
-
--- the flag of stream x: 1 where it is placed. There are 128 flags, so that any part of a packed number has one
-abbrev pub isFlagged : (flags : List ℕ) → (x : ℕ) → Bool
-isFlagged flags x = eqb (getD flags x 0) 1
-
--- the first k are placed
-abbrev pub AllFlagged : (flags : List ℕ) → (k : ℕ) → Type 0
-AllFlagged flags k = (x : ℕ) → x < k → isFlagged flags x ≡ true
 
 -- a list of what each of the first k records of a file needs now
 abbrev pub HoldNeeds : (file : List ℕ) → (k : ℕ) → (needs : List ℕ) → Type 0
 HoldNeeds file k needs = (i : ℕ) → i < k → getD needs i 0 ≡ packedNeeds (recordOf file i)
 
+-- of each part x, `readers` has a number that is at most j for every record j from k on, and below n, that needs x now
+abbrev pub HoldReaders : (needs : List ℕ) → (n k : ℕ) → (readers : List ℕ) → Type 0
+HoldReaders needs n k readers =
+    (j : ℕ) → k ≤ j → j < n
+    → let operands = getD needs j 0 in
+    (getD readers (firstPart operands) 0 ≤ j) × (getD readers (secondPart operands) 0 ≤ j) × (getD readers (thirdPart operands) 0 ≤ j)
+
+-- the flag of stream x: 1 where it is placed. There are 128 flags, so that any part of a packed number has one
+abbrev pub isFlagged : (flags : List ℕ) → (x : ℕ) → Bool
+isFlagged flags x = eqb (getD flags x 0) 1
+
 -- a record that is not placed and whose needs are
 unfoldable pub readyBy : (flags needs : List ℕ) → (i : ℕ) → Bool
 readyBy flags needs i =
+    let operands = getD needs i 0 in
     not (isFlagged flags i)
-    && isFlagged flags (getD needs i 0 % 128)
-    && isFlagged flags (getD needs i 0 / 128 % 128)
-    && isFlagged flags (getD needs i 0 / 16384 % 128)
+    && (isFlagged flags (firstPart operands) && isFlagged flags (secondPart operands) && isFlagged flags (thirdPart operands))
+
+-- none of the first k records is ready
+abbrev pub NoneReady : (flags needs : List ℕ) → (k : ℕ) → Type 0
+NoneReady flags needs k = (i : ℕ) → i < k → readyBy flags needs i ≡ false
+
+-- where the search goes on once record i is placed
+abbrev pub nextStart : (i reader : ℕ) → ℕ
+nextStart i reader = cond (ltb reader i) reader (i + 1)

@@ -5,7 +5,7 @@ ghost use mathlib.Core.Path.{_≡_};
 ghost use lib.ListN.{take};
 ghost use Rattle.node.specs.Note.{noteLength};
 
-// How long the note is; 0 where rules 1 to 8 refuse the file.
+// How long the note is; 0 where rules 1 to 8 or 23 refuse the file.
 pub fn note_length(file: &[u8]) -> usize
     ensures { λ r. ⌜ r ≡ noteLength (now (file .entry)) ⌝ }
 {

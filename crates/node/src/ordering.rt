@@ -14,7 +14,7 @@ ghost use Rattle.answers.specs.Checks.{every, lowest};
 ghost use Rattle.node.specs.declared.reading.RecordRule.the-variants.{Shape, Operands};
 ghost use Rattle.node.specs.Equations.{equationAt};
 ghost use Rattle.node.specs.Layout.{recordsOf, recordOf};
-ghost use Rattle.node.specs.Ordering.{isLower, lowerOk, neededAs, packedNeeds, isFlagged, AllFlagged, readyBy, HoldNeeds};
+ghost use Rattle.node.specs.Ordering.{isLower, lowerOk, neededAs, packedNeeds, firstPart, secondPart, thirdPart, HoldNeeds, HoldReaders, isFlagged, readyBy, NoneReady, nextStart};
 ghost use Rattle.node.specs.Reads.{workedOutOrder};
 ghost use Rattle.node.specs.Verdict.{passesOf, neverPlaced};
 
@@ -302,6 +302,42 @@ fn needs_of_all(file: &[u8], n: usize) -> [usize; 64]
     needs
 }
 
+// The parts of what a record needs now, one operand each.
+fn first_of(operands: usize) -> usize
+    ensures { λ r. ⌜ r ≡ firstPart operands ⌝ }
+{
+    operands % 128
+}
+
+fn second_of(operands: usize) -> usize
+    ensures { λ r. ⌜ r ≡ secondPart operands ⌝ }
+{
+    operands / 128 % 128
+}
+
+fn third_of(operands: usize) -> usize
+    ensures { λ r. ⌜ r ≡ thirdPart operands ⌝ }
+{
+    operands / 16384 % 128
+}
+
+// For each stream, the lowest of n records that needs it now.
+fn readers_of(needs: &[usize], n: usize) -> [usize; 128]
+    requires { ⌜ (n ≤ 64) × (length (now needs) ≡ 64) ⌝ }
+    ensures { λ r. ⌜ HoldReaders (now (needs .entry)) n 0 r ⌝ }
+{
+    let mut readers = [64usize; 128];
+    let mut i = n;
+    while 0 < i {
+        i -= 1;
+        let operands = needs[i];
+        readers[first_of(operands)] = i;
+        readers[second_of(operands)] = i;
+        readers[third_of(operands)] = i;
+    }
+    readers
+}
+
 // Whether stream x is placed.
 fn is_placed(flags: &[u8], x: usize) -> bool
     requires { ⌜ x < length (now flags) ⌝ }
@@ -319,19 +355,17 @@ fn is_ready(flags: &[u8], needs: &[usize], i: usize) -> bool
         return false;
     }
     let operands = needs[i];
-    // Most that are not ready wait for their first operand.
-    if !is_placed(flags, operands % 128) {
-        return false;
-    }
-    is_placed(flags, operands / 128 % 128) & is_placed(flags, operands / 16384 % 128)
+    is_placed(flags, first_of(operands))
+        & is_placed(flags, second_of(operands))
+        & is_placed(flags, third_of(operands))
 }
 
-// The lowest of n records that can be placed next, where none below `low` can.
-fn lowest_ready(flags: &[u8], needs: &[usize], low: usize, n: usize) -> Found
-    requires { ⌜ (low ≤ n) × (n ≤ 64) × (length (now flags) ≡ 128) × (length (now needs) ≡ 64) × AllFlagged (now flags) low ⌝ }
+// The lowest of n records that can be placed next, where none below `start` can.
+fn lowest_ready(flags: &[u8], needs: &[usize], start: usize, n: usize) -> Found
+    requires { ⌜ (n ≤ 64) × (length (now flags) ≡ 128) × (length (now needs) ≡ 64) × NoneReady (now flags) (now needs) start ⌝ }
     ensures { λ r. ⌜ r ≡ lowest (λ i. not (readyBy (now (flags .entry)) (now (needs .entry)) i)) n ⌝ }
 {
-    let mut i = low;
+    let mut i = start;
     while i < n {
         if is_ready(flags, needs, i) {
             return Found::At(i);
@@ -341,48 +375,56 @@ fn lowest_ready(flags: &[u8], needs: &[usize], low: usize, n: usize) -> Found
     Found::Nothing
 }
 
-// The lowest of n records that is not placed, where all below `low` are.
-fn lowest_unplaced(flags: &[u8], low: usize, n: usize) -> Found
-    requires { ⌜ (low ≤ n) × (n ≤ length (now flags)) × AllFlagged (now flags) low ⌝ }
+// The lowest of n records that is not placed.
+fn lowest_unplaced(flags: &[u8], n: usize) -> Found
+    requires { ⌜ n ≤ length (now flags) ⌝ }
     ensures { λ r. ⌜ r ≡ lowest (isFlagged (now (flags .entry))) n ⌝ }
 {
-    let mut i = low;
-    while i < n {
-        if !is_placed(flags, i) {
-            return Found::At(i);
+    let mut x = 0;
+    while x < n {
+        if !is_placed(flags, x) {
+            return Found::At(x);
         }
-        i += 1;
+        x += 1;
     }
     Found::Nothing
 }
 
-// The order by searching. All records below `low` are placed, so a search starts there.
+// Where the search goes on once record i is placed: at the lowest record that needs it, where that is below, else behind it. No other
+// record has become ready.
+fn next_start(i: usize, reader: usize) -> usize
+    requires { ⌜ i < 64 ⌝ }
+    ensures { λ r. ⌜ r ≡ nextStart i reader ⌝ }
+{
+    if reader < i { reader } else { i + 1 }
+}
+
+// The order by searching.
 pub fn searched_order(file: &[u8], n: usize) -> Order
     requires { ⌜ (n ≡ recordsOf (now file)) × (n ≤ 64) × (every (passesOf (now file) n Shape) n ≡ true) × (every (passesOf (now file) n Operands) n ≡ true) ⌝ }
     ensures { λ r. ⌜ r .unplaced ≡ neverPlaced (workedOutOrder (equationAt (now (file .entry))) n) n ⌝ }
     ensures { λ r. ⌜ (r .unplaced ≡ Nothing → take n (r .streams) ≡ workedOutOrder (equationAt (now (file .entry))) n) ⌝ }
 {
     let needs = needs_of_all(file, n);
+    let readers = readers_of(&needs, n);
     let mut streams = [0usize; 64];
     let mut flags = NONE_PLACED;
-    let mut low = 0;
+    let mut start = 0;
     let mut k = 0;
     while k < n {
-        let Found::At(i) = lowest_ready(&flags, &needs, low, n) else {
+        let Found::At(i) = lowest_ready(&flags, &needs, start, n) else {
             return Order {
                 streams,
-                unplaced: lowest_unplaced(&flags, low, n),
+                unplaced: lowest_unplaced(&flags, n),
             };
         };
         streams[k] = i;
         flags[i] = 1;
-        if i == low {
-            low += 1;
-        }
+        start = next_start(i, readers[i]);
         k += 1;
     }
     Order {
         streams,
-        unplaced: lowest_unplaced(&flags, low, n),
+        unplaced: lowest_unplaced(&flags, n),
     }
 }

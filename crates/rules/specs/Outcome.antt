@@ -36,7 +36,7 @@ abbrev pub KindKeeps : (cert : List ℕ) → (kind : ℕ) → (ℕ → Bool) →
 KindKeeps cert kind ok = (i : ℕ) → i < linesOf cert → lineOf cert i .head .kind ≡ kind → ok i ≡ true
 
 pub record CertificateRules (node cert : List ℕ) : Type 0 where
-  pub node-rules : NodeRules node  -- 1 to 8
+  pub node-rules : NodeRules node  -- 1 to 8 and 23
   pub file : FileRules cert  -- 11 to 14
   pub constraints : ConstraintsKeep node cert  -- 15
   pub shapes : LinesKeep cert (shapePasses node cert)  -- 16
@@ -48,7 +48,7 @@ pub record CertificateRules (node cert : List ℕ) : Type 0 where
   pub base-ends : hasEmpty (lineOf cert) (baseOf node cert) ≡ true  -- 21, the base
   pub step-ends : hasEmpty (lineOf cert) (stepOf node cert) ≡ true  -- 21, the step
 
--- 1 to 8 and 11 to 15, which are checked before any line
+-- 1 to 8, 23 and 11 to 15, which are checked before any line
 pub record BeforeLines (node cert : List ℕ) : Type 0 where
   pub node-rules : NodeRules node
   pub file : FileRules cert

@@ -1,7 +1,7 @@
 -- The answer to an instant's call: which one each test in its turn gives, and what an answered call has passed.
 -- Assumes nothing.
 use mathlib.Core.Path.{_≡_, refl, sym, _∙_, ap}
-use mathlib.Core.Bool.{Bool, true, false, cond, false≢true}
+use mathlib.Core.Bool.{Bool, true, false, cond}
 use mathlib.Core.List.{List}
 use Prim.Native.Nat.{ℕ, _≤_}
 use native.Mathlib.Omega.{arith}
@@ -14,7 +14,7 @@ use Rattle.answers.specs.declared.Place.the-variants.{File}
 use Rattle.answers.specs.declared.InstantVerdict.{InstantVerdict}
 use Rattle.answers.specs.declared.InstantVerdict.the-variants.{Refused}
 use Rattle.answers.specs.declared.Found.{Found}
-use Rattle.answers.specs.Answer.{Answer, accepted, refused, instantAnswer, NodeValues, isAccepted}
+use Rattle.answers.specs.Answer.{Answer, accepted, refused, instantAnswer, isAccepted}
 use Rattle.answers.specs.Checks.{lowest}
 use Rattle.answers.proofs.Checks.{by-check}
 use Rattle.answers.proofs.Tests.{both-true}

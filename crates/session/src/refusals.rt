@@ -8,5 +8,5 @@ pub const INPUT_COUNT: usize = 31;
 pub const SLICE_LENGTH: usize = 32;
 // "bool input not 0 or 1; lowest record"
 pub const BOOL_INPUT: usize = 33;
-// "value outside −2^63 to 2^63 − 1; lowest stream"
+// "value outside −2^63 to 2^63 − 1", at "the first stream in the worked-out order"
 pub const OUTSIDE_RANGE: usize = 34;

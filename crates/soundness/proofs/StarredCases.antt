@@ -2,10 +2,9 @@
 -- Assumes nothing.
 use mathlib.Core.Path.{_≡_, refl, sym, _∙_, ap}
 use mathlib.Core.List.{List, [], _∷_}
-use Prim.Native.Nat.{ℕ}
 use native.Mathlib.Nat.{not-suc-le-zero}
 use lib.IntN.{ℤ, pos}
-use lib.ListN.{length, replicate, length-replicate}
+use lib.ListN.{replicate, length-replicate}
 use Rattle.integers.specs.Range.{inside}
 use Rattle.fields.specs.Fields.{twosComplement}
 use Rattle.answers.specs.declared.Place.the-variants.{File, Record as AtRecord, Line as AtLine, Base}

@@ -6,6 +6,7 @@ pub mod Keeping
 pub mod Numbers
 pub mod Orders
 pub mod Reading
+pub mod Renaming
 pub mod Results
 pub mod Spreading
 pub mod Typed

@@ -2,6 +2,7 @@ pub mod Evaluation
 pub mod Instant
 pub mod Meaning
 pub mod Nodes
+pub mod Renaming
 pub mod Solutions
 pub mod Theorems
 pub mod Typing

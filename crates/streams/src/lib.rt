@@ -1,5 +1,5 @@
 // What a node means over 64-bit numbers: the value of one equation, that of its operator's row where 64 signed bits hold it, and of
-// all streams at one instant. Every published call is total.
+// all streams at one instant. Every published call is total but `worked_out`, which asks for an accepted file and its order.
 use integers::Checked;
 use node::Equation;
 use operators::at_most;

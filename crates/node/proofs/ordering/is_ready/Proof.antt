@@ -1,11 +1,13 @@
 -- `node::is_ready` meets its contract: each test in its turn.
 -- Assumes nothing.
-use Rattle.node.specs.Ordering.{readyBy}
 use native.Mathlib.Omega.{arith}
-use borrow.Author.Tests.{not-true, not-false}
+use Rattle.node.specs.Ordering.{readyBy}
 use borrow.Author.Needs.{needs}
 use Rattle.node.proofs.ordering.is_ready.Statement.{statement}
 use Rattle.node.proofs.ordering.is_ready.Tie as tie
+
+abbrev start : tie.Else1 → tie.Start
+start c = c .before .before .before .before
 
 is-placed-requires : tie.Need-is-placed-requires
 is-placed-requires c κs = let pre = c .before .before .pre in omega (arith, pre .0, pre .1)
@@ -20,34 +22,39 @@ mul-operands c = search needs
 shared-slice-read-operands : tie.Need-shared-slice-read-operands
 shared-slice-read-operands c = search needs
 
+first-of-requires : tie.Need-first-of-requires
+first-of-requires c κs = search needs
+
 is-placed-requires-2 : tie.Need-is-placed-requires-2
-is-placed-requires-2 c κs = search needs
+is-placed-requires-2 c κs = omega (arith, c .first-of .ensures, start (c .before .before) .pre .0)
+
+second-of-requires : tie.Need-second-of-requires
+second-of-requires c κs = search needs
+
+is-placed-requires-3 : tie.Need-is-placed-requires-3
+is-placed-requires-3 c κs = omega (arith, c .second-of .ensures, start (c .before .before .before .before) .pre .0)
+
+third-of-requires : tie.Need-third-of-requires
+third-of-requires c κs = search needs
+
+is-placed-requires-4 : tie.Need-is-placed-requires-4
+is-placed-requires-4 c κs = omega (arith, c .third-of .ensures, start (c .before .before .before .before .before .before) .pre .0)
 
 returns-2 : tie.Need-returns-2
 unfolding readyBy
 returns-2 c =
-    let second = c .before in
-    let first = second .before .before in
-    rw (← (first .before .is-placed .ensures), first .if1 .left, ← (second .is-placed2 .ensures), not-true (second .is-placed2 .result) (c .if2 .taken))
-
-is-placed-requires-3 : tie.Need-is-placed-requires-3
-is-placed-requires-3 c κs = search needs
-
-is-placed-requires-4 : tie.Need-is-placed-requires-4
-is-placed-requires-4 c κs = search needs
-
-returns-3 : tie.Need-returns-3
-unfolding readyBy
-returns-3 c =
     let third = c .before in
     let second = third .before in
-    let first = second .before .before .before in
+    let first = second .before .before in
+    let own = first .before .before .before in
     rw (
-      ← (first .before .is-placed .ensures),
-      first .if1 .left,
-      ← (second .before .is-placed2 .ensures),
-      not-false (second .before .is-placed2 .result) (second .if2 .left),
-      ← (third .is-placed3 .ensures),
+      ← (own .before .is-placed .ensures),
+      own .if1 .left,
+      ← (first .before .first-of .ensures),
+      ← (second .before .second-of .ensures),
+      ← (third .third-of .ensures),
+      ← (first .is-placed2 .ensures),
+      ← (second .is-placed3 .ensures),
       ← (c .is-placed4 .ensures),
     )
 
@@ -59,8 +66,10 @@ is-ready-spec =
     returns
     mul-operands
     shared-slice-read-operands
+    first-of-requires
     is-placed-requires-2
-    returns-2
+    second-of-requires
     is-placed-requires-3
+    third-of-requires
     is-placed-requires-4
-    returns-3)
+    returns-2)

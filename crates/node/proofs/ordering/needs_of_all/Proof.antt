@@ -1,10 +1,9 @@
 -- `node::needs_of_all` meets its contract. The loop's invariant: the needs of the records passed are there.
 -- Assumes nothing.
-use mathlib.Core.Path.{_≡_, refl, sym, _∙_, ap}
+use mathlib.Core.Path.{_≡_, refl, _∙_, ap}
 use Prim.Native.Nat.{_-_, _≤_}
 use native.Mathlib.Nat.{not-suc-le-zero}
 use native.Mathlib.Omega.{arith}
-use denote.Ref.{now}
 use lib.ListN.{length, length-set}
 use Rattle.node.specs.Ordering.{packedNeeds, HoldNeeds}
 use Rattle.node.proofs.Flags.{needs-more}

@@ -1,30 +1,44 @@
--- `node::searched_order` meets its contract. The loop's invariant: the arrays hold the order after k turns.
+-- `node::searched_order` meets its contract. The loop's invariant: the arrays hold the order after k turns, and no record below the
+-- search's start is ready.
 -- Assumes nothing.
 use mathlib.Core.Path.{_≡_, sym, _∙_, ap}
-use mathlib.Core.Logic.{inl, inr, ⊎-elim}
-use Prim.Native.Nat.{_-_, _≤_}
+use Prim.Native.Nat.{_-_, _<_}
+use native.Mathlib.Nat.{not-suc-le-zero}
 use native.Mathlib.Omega.{arith}
 use denote.Ref.{now}
 use lib.ListN.{length}
 use Rattle.node.specs.Order.{lowestReady, orderAfter}
+use Rattle.node.specs.Ordering.{NoneReady}
 use Rattle.node.specs.Reads.{needsOf}
 use Rattle.node.proofs.Placing.{rests}
-use Rattle.node.proofs.Searching.{Searching, searching-start, next-is, next-below, searching-more, low-moves, unplaced-is, streams-taken}
+use Rattle.node.proofs.Searching.{Searching, searching-start, next-is, next-below, searching-more, unplaced-is, streams-taken}
+use Rattle.node.proofs.Starting.{start-moves, none-below}
 use borrow.Author.Needs.{needs}
 use Rattle.node.proofs.ordering.searched_order.Statement.{statement}
 use Rattle.node.proofs.ordering.searched_order.Tie as tie
 
 abbrev Inv-loop : tie.InvT-loop
-Inv-loop file n needs streams₀ flags₀ low₀ k₀ streams flags low k = Searching file n streams flags low k
+Inv-loop file n needs readers streams₀ flags₀ start₀ k₀ streams flags start k = Searching file n streams flags k × NoneReady flags needs start
 
 abbrev μ-loop : tie.MeasureT-loop
-μ-loop file n needs streams₀ flags₀ low₀ k₀ streams flags low k = n - k
+μ-loop file n needs readers streams₀ flags₀ start₀ k₀ streams flags start k = n - k
+
+abbrev begin : tie.At-loop Inv-loop μ-loop → tie.Start Inv-loop μ-loop
+begin at = at .before .before .before .before .before
 
 needs-of-all-requires : tie.Need-needs-of-all-requires Inv-loop μ-loop
 needs-of-all-requires c κs = let pre = c .before .pre in (pre .0, pre .1)
 
+slice-aggregate-readers-of : tie.Need-slice-aggregate-readers-of Inv-loop μ-loop
+slice-aggregate-readers-of c = search needs
+
+readers-of-requires : tie.Need-readers-of-requires Inv-loop μ-loop
+readers-of-requires c κs =
+    let room : length (c .before .needs-of-all .result) ≡ 64 = search needs in
+    (c .before .before .before .pre .1, room)
+
 loop-holds : tie.Need-loop-holds Inv-loop μ-loop
-loop-holds c = searching-start _ _
+loop-holds c = (searching-start _ _, λ k l. absurd (not-suc-le-zero l))
 
 slice-aggregate-lowest-ready : tie.Need-slice-aggregate-lowest-ready Inv-loop μ-loop
 slice-aggregate-lowest-ready c = search needs
@@ -35,17 +49,23 @@ slice-aggregate-lowest-ready-2 c = search needs
 lowest-ready-requires : tie.Need-lowest-ready-requires Inv-loop μ-loop
 lowest-ready-requires c κs =
     let at = c .before .before .before in
-    let inv = at .loop .inv in
-    let room : length (at .before .needs-of-all .result) ≡ 64 = search needs in
-    (inv .within .1, at .before .before .before .pre .1, inv .flagging .size, room, inv .below)
+    let room : length (at .before .before .before .needs-of-all .result) ≡ 64 = search needs in
+    (begin at .pre .1, at .loop .inv .0 .flagging .size, room, at .loop .inv .1)
 
 -- the record that was found is the definition's next
-found-is : (c : tie.After-lowest-ready Inv-loop μ-loop) → let at = c .before .before .before .before in let a = at .before .before .before .args in lowestReady (needsOf (now (a .file))) (a .n) (orderAfter (needsOf (now (a .file))) (a .n) (at .loop .k)) ≡ c .lowest-ready .result
+found-is : (c : tie.After-lowest-ready Inv-loop μ-loop) → let at = c .before .before .before .before in let a = begin at .args in lowestReady (needsOf (now (a .file))) (a .n) (orderAfter (needsOf (now (a .file))) (a .n) (at .loop .k)) ≡ c .lowest-ready .result
 found-is c =
     let at = c .before .before .before .before in
-    let s = at .before .before .before in
-    sym (next-is _ _ _ _ _ _ (at .loop .inv) (at .before .needs-of-all .result) (s .pre .1) (s .pre .2) (s .pre .3) (at .before .needs-of-all .ensures))
+    let s = begin at in
+    let needs-made = at .before .before .before .needs-of-all in
+    sym (next-is _ _ _ _ _ (at .loop .inv .0) (needs-made .result) (s .pre .1) (s .pre .2) (s .pre .3) (needs-made .ensures))
     ∙ sym (c .lowest-ready .ensures)
+
+-- it is one of n
+found-below : (c : tie.After-i Inv-loop μ-loop) → c .i .given .0 .0 < begin (c .before .before .before .before .before .before) .args .n
+found-below c =
+    let at = c .before .before .before .before .before .before in
+    next-below _ _ _ _ _ (at .loop .inv .0) _ (begin at .pre .1) (c .before .before .before .before .before .loop-test .taken) (found-is (c .before .before) ∙ c .i .given .1)
 
 enum-known-i : tie.Need-enum-known-i Inv-loop μ-loop
 enum-known-i c = search needs
@@ -59,19 +79,18 @@ slice-aggregate-lowest-unplaced c = search needs
 lowest-unplaced-requires : tie.Need-lowest-unplaced-requires Inv-loop μ-loop
 lowest-unplaced-requires c κs =
     let at = c .before .before .before .before .before .before .before in
-    let inv = at .loop .inv in
-    (inv .within .1, omega (arith, at .before .before .before .pre .1, inv .flagging .size), inv .below)
+    omega (arith, begin at .pre .1, at .loop .inv .0 .flagging .size)
 
 returns : tie.Need-returns Inv-loop μ-loop
 returns c =
     let stopped = c .before .before in
     let search-end = stopped .before .before in
     let at = search-end .before .before .before .before in
-    let s = at .before .before .before in
-    let inv = at .loop .inv in
-    let ends = rests (needsOf (now (s .args .file))) (s .args .n) (at .loop .k) (s .args .n) (found-is search-end ∙ stopped .enum-told .given .1) (inv .within .0) in
-    let unplaced = c .lowest-unplaced .ensures ∙ unplaced-is _ _ _ _ _ _ inv (s .pre .1) ends in
-    (unplaced, λ e. streams-taken _ _ _ _ _ _ inv (s .pre .1) ends (sym unplaced ∙ e))
+    let s = begin at in
+    let inv = at .loop .inv .0 in
+    let ends = rests (needsOf (now (s .args .file))) (s .args .n) (at .loop .k) (s .args .n) (found-is search-end ∙ stopped .enum-told .given .1) (inv .within) in
+    let unplaced = c .lowest-unplaced .ensures ∙ unplaced-is _ _ _ _ _ inv (s .pre .1) ends in
+    (unplaced, λ e. streams-taken _ _ _ _ _ inv (s .pre .1) ends (sym unplaced ∙ e))
 
 mul-streams : tie.Need-mul-streams Inv-loop μ-loop
 mul-streams c = search needs
@@ -80,14 +99,16 @@ array-write-streams : tie.Need-array-write-streams Inv-loop μ-loop
 array-write-streams c = search needs
 
 array-write-flags : tie.Need-array-write-flags Inv-loop μ-loop
-array-write-flags c =
-    let found = c .before in
-    let at = found .before .before .before .before .before .before in
-    let s = at .before .before .before in
-    omega (arith, s .pre .1, next-below _ _ _ _ _ _ (at .loop .inv) _ (s .pre .1) (found .before .before .before .before .before .loop-test .taken) (found-is (found .before .before) ∙ found .i .given .1))
+array-write-flags c = omega (arith, begin (c .before .before .before .before .before .before .before) .pre .1, found-below (c .before))
 
-add-low : tie.Need-add-low Inv-loop μ-loop
-add-low c = search needs
+mul-next-start : tie.Need-mul-next-start Inv-loop μ-loop
+mul-next-start c = omega (arith, begin (c .before .before .before .before .before .before .before) .pre .1, found-below (c .before))
+
+array-read-next-start : tie.Need-array-read-next-start Inv-loop μ-loop
+array-read-next-start c = omega (arith, begin (c .before .before .before .before .before .before .before) .pre .1, found-below (c .before))
+
+next-start-requires : tie.Need-next-start-requires Inv-loop μ-loop
+next-start-requires c κs = omega (arith, begin (c .before .before .before .before .before .before .before) .pre .1, found-below (c .before))
 
 add-k : tie.Need-add-k Inv-loop μ-loop
 add-k c = search needs
@@ -99,11 +120,15 @@ loop-again : tie.Need-loop-again Inv-loop μ-loop
 loop-again c =
     let found = c .before .before in
     let at = found .before .before .before .before .before .before in
-    let s = at .before .before .before in
+    let s = begin at in
     let inv = at .loop .inv in
+    let needs-made = at .before .before .before .needs-of-all .result in
     let l = found .before .before .before .before .before .loop-test .taken in
-    let moved = low-moves _ _ _ _ _ _ inv _ (s .pre .1) l (found-is (found .before .before) ∙ found .i .given .1) (c .if1 .low) (⊎-elim (λ t. inl (t .0 .taken, t .1)) (λ e. inr (e .1)) (c .if1 .came)) in
-    searching-more _ _ _ _ _ _ inv _ (s .pre .1) l (found-is (found .before .before) ∙ found .i .given .1) (c .if1 .low) moved
+    let none = none-below (at .loop .flags) needs-made (s .args .n) _ (sym (found .before .before .lowest-ready .ensures) ∙ found .i .given .1) in (
+      searching-more _ _ _ _ _ (inv .0) _ (s .pre .1) l (found-is (found .before .before) ∙ found .i .given .1),
+      rw (c .next-start .ensures)
+          (start-moves (at .loop .flags) needs-made _ (at .before .readers-of .result) (s .args .n) (at .before .readers-of .ensures) (omega (arith, inv .0 .flagging .size, found-below found, s .pre .1)) (found-below found) none),
+    )
 
 slice-aggregate-lowest-unplaced-2 : tie.Need-slice-aggregate-lowest-unplaced-2 Inv-loop μ-loop
 slice-aggregate-lowest-unplaced-2 c = search needs
@@ -111,18 +136,17 @@ slice-aggregate-lowest-unplaced-2 c = search needs
 lowest-unplaced-requires-2 : tie.Need-lowest-unplaced-requires-2 Inv-loop μ-loop
 lowest-unplaced-requires-2 c κs =
     let at = c .before .before in
-    let inv = at .loop .inv in
-    (inv .within .1, omega (arith, at .before .before .before .pre .1, inv .flagging .size), inv .below)
+    omega (arith, begin at .pre .1, at .loop .inv .0 .flagging .size)
 
 returns-2 : tie.Need-returns-2 Inv-loop μ-loop
 returns-2 c =
     let at = c .before .before .before in
-    let s = at .before .before .before in
-    let inv = at .loop .inv in
-    let k-is : s .args .n ≡ at .loop .k = omega (arith, inv .within .0) in
+    let s = begin at in
+    let inv = at .loop .inv .0 in
+    let k-is : s .args .n ≡ at .loop .k = omega (arith, inv .within) in
     let ends = ap (orderAfter (needsOf (now (s .args .file))) (s .args .n)) k-is in
-    let unplaced = c .lowest-unplaced2 .ensures ∙ unplaced-is _ _ _ _ _ _ inv (s .pre .1) ends in
-    (unplaced, λ e. streams-taken _ _ _ _ _ _ inv (s .pre .1) ends (sym unplaced ∙ e))
+    let unplaced = c .lowest-unplaced2 .ensures ∙ unplaced-is _ _ _ _ _ inv (s .pre .1) ends in
+    (unplaced, λ e. streams-taken _ _ _ _ _ inv (s .pre .1) ends (sym unplaced ∙ e))
 
 pub searched-order-spec : {M : Type 1} → statement M
 searched-order-spec =
@@ -131,6 +155,8 @@ searched-order-spec =
     Inv-loop
     μ-loop
     needs-of-all-requires
+    slice-aggregate-readers-of
+    readers-of-requires
     loop-holds
     slice-aggregate-lowest-ready
     slice-aggregate-lowest-ready-2
@@ -143,7 +169,9 @@ searched-order-spec =
     mul-streams
     array-write-streams
     array-write-flags
-    add-low
+    mul-next-start
+    array-read-next-start
+    next-start-requires
     add-k
     loop-less
     loop-again

@@ -1,7 +1,7 @@
 -- `node::records_read` meets its contract: a rule's search found nothing where the next begins, and at each way out the first failing
 -- rule is the one that is given.
 -- Assumes nothing.
-use mathlib.Core.Path.{_≡_, sym, _∙_, ap}
+use mathlib.Core.Path.{_≡_, sym, _∙_}
 use denote.Ref.{now}
 use Rattle.answers.specs.declared.Found.the-variants.{Nothing}
 use Rattle.answers.specs.Checks.{lowest}
@@ -11,7 +11,7 @@ use Rattle.node.specs.declared.reading.RecordRule.the-variants.{Shape, O
 use Rattle.node.specs.Equations.{equationAt}
 use Rattle.node.specs.Order.{upTo}
 use Rattle.node.specs.Reads.{workedOutOrder}
-use Rattle.node.specs.Verdict.{passesOf, neverPlaced, typesVerdict, recordsVerdict}
+use Rattle.node.specs.Verdict.{passesOf, neverPlaced, recordsVerdict}
 use Rattle.node.proofs.LowerOperands.{operands-pass, all-placed, record-order-taken}
 use Rattle.node.proofs.NodeRefusals.{refusal, typed-read}
 use borrow.Author.Needs.{needs}
