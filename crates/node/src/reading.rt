@@ -1,8 +1,8 @@
 // The verdict on a node file: rules 1 to 8 in order, with 23 between 6 and 7, each over all its records first.
+use crate::arrays::RECORD_ORDER;
 use crate::layout::record_among;
 use crate::layout::trailer_of;
 use crate::layout::type_byte_among;
-use crate::ordering::RECORD_ORDER;
 use crate::ordering::in_record_order;
 use crate::ordering::searched_order;
 use crate::refusals;
