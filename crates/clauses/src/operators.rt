@@ -14,10 +14,11 @@ use rules::Linear;
 use rules::Named;
 use rules::Pattern;
 ghost use mathlib.Core.Path.{_≡_};
+ghost use mathlib.Core.List.{[], _∷_};
 ghost use lib.IntN.{negℤ};
 ghost use Rattle.node.specs.declared.equation.StreamType.the-variants.{Bool as BoolType, Int as IntType};
-ghost use Rattle.node.specs.declared.equation.Equation.the-variants.{Constant, Not, And, Or, Same, Multiple, AtMost, Equal, If};
-ghost use Rattle.rules.specs.Clauses.{equalTo, sameAs, numbered};
+ghost use Rattle.node.specs.declared.equation.Equation.the-variants.{Constant, Not, And, Or, Same, Multiple, AtMost, Equal, If, Lesser, Greater};
+ghost use Rattle.rules.specs.Clauses.{clause1, clause2, equalTo, sameAs, numbered};
 ghost use Rattle.clauses.specs.Operators.{over, guardedNamed, Has, Short};
 
 // A constant, and its negation, in 64 bits.
@@ -162,6 +163,27 @@ pub fn equal(s: u32, a: u32, b: u32, r: u16) -> Named
         three(Pattern::Yes(s), less(a, b), less(b, a)),
         r,
     )
+}
+
+// Operators 14 and 15: s lies to one side of both operands, `p` and `q`, and to the other of one of them, `u` or `v`.
+fn extreme(p: Pattern, q: Pattern, u: Pattern, v: Pattern, r: u16) -> Named
+    ensures { λ z. ⌜ z ≡ numbered (clause1 p ∷ clause1 q ∷ clause2 u v ∷ []) r ⌝ }
+{
+    of_three(one(p), one(q), two(u, v), r)
+}
+
+// Operator 14.
+pub fn lesser(s: u32, a: u32, b: u32, r: u16) -> Named
+    ensures { λ z. ⌜ z ≡ numbered (over IntType (Lesser a b) s) r ⌝ }
+{
+    extreme(most(s, a), most(s, b), most(a, s), most(b, s), r)
+}
+
+// Operator 15.
+pub fn greater(s: u32, a: u32, b: u32, r: u16) -> Named
+    ensures { λ z. ⌜ z ≡ numbered (over IntType (Greater a b) s) r ⌝ }
+{
+    extreme(most(a, s), most(b, s), most(s, a), most(s, b), r)
 }
 
 // Clause r of a list, with a literal put in front.

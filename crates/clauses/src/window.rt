@@ -4,7 +4,9 @@ use crate::operators::at_most;
 use crate::operators::constant;
 use crate::operators::equal;
 use crate::operators::equal_to;
+use crate::operators::greater;
 use crate::operators::if_then_else;
+use crate::operators::lesser;
 use crate::operators::multiple;
 use crate::operators::not;
 use crate::operators::or;
@@ -75,5 +77,7 @@ pub fn clause_of(ty: StreamType, e: Equation, place: Position, offset: u8, s: u1
         }
         Equation::Arrow(a, b) => later(ty, place, s, var(offset, a), var(offset, b), r),
         Equation::FollowedBy(a, b) => later(ty, place, s, var(offset, a), back(offset, b), r),
+        Equation::Lesser(a, b) => lesser(s, var(offset, a), var(offset, b), r),
+        Equation::Greater(a, b) => greater(s, var(offset, a), var(offset, b), r),
     }
 }

@@ -8,7 +8,7 @@ use native.Mathlib.Omega.{arith}
 use lib.IntN.{ℤ, pos, negℤ, _+ℤ_, _-ℤ_, _*ℤ_}
 use lib.Signed.{leZ, ltZ, _≤ℤ_, _<ℤ_}
 pub use lib.Signed.{≤ℤ-refl, <ℤ-irrefl, <ℤ-≤ℤ-trans}
-use Rattle.integers.proofs.Diff.{zify, by-diff2, by-diff3, by-diff4}
+use Rattle.integers.proofs.Diff.{zify, by-diff, by-diff2, by-diff3, by-diff4}
 
 -- ---- the order itself
 
@@ -44,6 +44,12 @@ leZ-true = by-diff2 _ (λ p q r s. simp zify (omega arith))
 
 pub leZ-false : (a b : ℤ) → (leZ a b ≡ false) ↔ (b <ℤ a)
 leZ-false = by-diff2 _ (λ p q r s. simp zify (omega arith))
+
+pub leZ-self : (a : ℤ) → leZ a a ≡ true
+leZ-self = by-diff _ (λ p q. simp zify (omega arith))
+
+pub leZ-total : (a b : ℤ) → leZ a b ≡ false → leZ b a ≡ true
+leZ-total = by-diff2 _ (λ p q r s. simp zify (omega arith))
 
 pub ltZ-true : (a b : ℤ) → (ltZ a b ≡ true) ↔ (a <ℤ b)
 ltZ-true = by-diff2 _ (λ p q r s. simp zify (omega arith))

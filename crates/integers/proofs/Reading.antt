@@ -14,8 +14,8 @@ use Rattle.integers.proofs.Rules.{up, dn, halves, Is, +ℤ-halves, -ℤ
 abbrev pub rd : Width → ℤ → ℤ
 rd w z = toZ w (ofZ w z)
 
--- an operation on two words, on what the machine reads of them
-pub rd-op : (w : Width) (op : ℤ → ℤ → ℤ) {a b : ℤ} → SFits w a → SFits w b → op (rd w a) (rd w b) ≡ op a b
+-- an operation or a test on two words, on what the machine reads of them
+pub rd-op : {A : Type 0} (w : Width) (op : ℤ → ℤ → A) {a b : ℤ} → SFits w a → SFits w b → op (rd w a) (rd w b) ≡ op a b
 rd-op w op f g = ap₂ op (toZ-ofZ f) (toZ-ofZ g)
 
 -- what `omega` needs of a number that its width holds

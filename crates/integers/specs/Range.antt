@@ -22,6 +22,13 @@ inside z = leZ least z && leZ z greatest
 unfoldable pub checkedOf : ℤ → Checked
 checkedOf z = cond (inside z) (Value z) Outside
 
+-- the lesser and the greater of two numbers
+unfoldable pub lesser : (a b : ℤ) → ℤ
+lesser a b = cond (leZ a b) a b
+
+unfoldable pub greater : (a b : ℤ) → ℤ
+greater a b = cond (leZ a b) b a
+
 -- the number of magnitude m, below 0 where `negative`
 abbrev pub signedOf : Bool → ℕ → ℤ
 signedOf negative m = cond negative (negℤ (pos m)) (pos m)

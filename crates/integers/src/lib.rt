@@ -3,7 +3,7 @@
 use sign::signed;
 ghost use mathlib.Core.Path.{_≡_};
 ghost use lib.IntN.{_+ℤ_, _-ℤ_, _*ℤ_};
-ghost use Rattle.integers.specs.Range.{checkedOf};
+ghost use Rattle.integers.specs.Range.{checkedOf, lesser, greater};
 
 mod sign;
 
@@ -55,6 +55,20 @@ pub fn difference(a: i64, b: i64) -> Checked
             Checked::Outside
         }
     }
+}
+
+// The lesser of a and b.
+pub fn lesser(a: i64, b: i64) -> i64
+    ensures { λ r. ⌜ r ≡ lesser a b ⌝ }
+{
+    if a <= b { a } else { b }
+}
+
+// The greater of a and b.
+pub fn greater(a: i64, b: i64) -> i64
+    ensures { λ r. ⌜ r ≡ greater a b ⌝ }
+{
+    if a <= b { b } else { a }
 }
 
 // k * a: the product of the magnitudes, where it is at most 2^63, with the sign of the product.

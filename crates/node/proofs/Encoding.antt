@@ -16,7 +16,7 @@ use Rattle.answers.proofs.Tests.{both-true}
 use Rattle.node.specs.declared.equation.StreamType.{StreamType}
 use Rattle.node.specs.declared.equation.StreamType.the-variants.{Bool as BoolType, Int as IntType}
 use Rattle.node.specs.declared.equation.Equation.{Equation}
-use Rattle.node.specs.declared.equation.Equation.the-variants.{Input, Constant, Not, And, Or, Same, Sum, Difference, Multiple, AtMost, Equal, If, Arrow, FollowedBy}
+use Rattle.node.specs.declared.equation.Equation.the-variants.{Input, Constant, Not, And, Or, Same, Sum, Difference, Multiple, AtMost, Equal, If, Arrow, FollowedBy, Lesser, Greater}
 use Rattle.node.specs.declared.layout.Record.{Record}
 use Rattle.node.specs.declared.table.Limit.{Limit}
 use Rattle.node.specs.declared.table.Limit.the-variants.{Zero, Value, Factor}
@@ -45,6 +45,8 @@ decoded-encoded ty (Equal a b) = refl
 decoded-encoded ty (If c a b) = refl
 decoded-encoded ty (Arrow a b) = refl
 decoded-encoded ty (FollowedBy a b) = refl
+decoded-encoded ty (Lesser a b) = refl
+decoded-encoded ty (Greater a b) = refl
 
 -- ---- rule 5, part by part
 
@@ -141,7 +143,7 @@ by-row : (r : Record) → r .op < operators → encoded (typeOf (r .ty)) (decode
 unfolding decoded rowOf
 by-row r l =
     each (λ op. encoded (typeOf (r .ty)) (decoded (with-op r op)) ≡ cleared (rowOf op) (with-op r op)) operators
-    ((((((((((((((tt, refl), refl), refl), refl), refl), refl), refl), refl), refl), refl), refl), refl), refl), refl)
+    ((((((((((((((((tt, refl), refl), refl), refl), refl), refl), refl), refl), refl), refl), refl), refl), refl), refl), refl), refl)
     (r .op) l
 
 same-record : (r : Record) {ty a b c rest : ℕ} {k : ℤ} → ty ≡ r .ty → a ≡ r .a → b ≡ r .b → c ≡ r .c → k ≡ r .k → rest ≡ r .rest → record { op = r .op; ty = ty; a = a; b = b; c = c; k = k; rest = rest } ≡ r

@@ -9,7 +9,7 @@ use Rattle.node.specs.declared.layout.Record.{Record}
 use Rattle.node.specs.declared.equation.StreamType.{StreamType}
 use Rattle.node.specs.declared.equation.StreamType.the-variants.{Bool as BoolType, Int as IntType}
 use Rattle.node.specs.declared.equation.Equation.{Equation}
-use Rattle.node.specs.declared.equation.Equation.the-variants.{Input, Constant, Not, And, Or, Same, Sum, Difference, Multiple, AtMost, Equal, If, Arrow, FollowedBy}
+use Rattle.node.specs.declared.equation.Equation.the-variants.{Input, Constant, Not, And, Or, Same, Sum, Difference, Multiple, AtMost, Equal, If, Arrow, FollowedBy, Lesser, Greater}
 use Rattle.node.specs.Layout.{recordsOf, recordAmong, typeByteAmong}
 
 -- "type byte (0 bool, 1 int)"
@@ -20,7 +20,7 @@ abbrev pub byteOf : StreamType → ℕ
 byteOf BoolType = 0
 byteOf IntType = 1
 
--- operators 0 to 13, each with its own operands
+-- operators 0 to 15, each with its own operands
 abbrev pub equations : Record → List Equation
 equations r =
     Input
@@ -37,6 +37,8 @@ equations r =
     ∷ If (r .c) (r .a) (r .b)
     ∷ Arrow (r .a) (r .b)
     ∷ FollowedBy (r .a) (r .b)
+    ∷ Lesser (r .a) (r .b)
+    ∷ Greater (r .a) (r .b)
     ∷ []
 
 -- the equation of a record; past the table, where rule 5 refuses, an input
@@ -62,6 +64,8 @@ fieldsOf (Equal a b) = fields 10 a b 0 (pos 0)
 fieldsOf (If c a b) = fields 11 a b c (pos 0)
 fieldsOf (Arrow a b) = fields 12 a b 0 (pos 0)
 fieldsOf (FollowedBy a b) = fields 13 a b 0 (pos 0)
+fieldsOf (Lesser a b) = fields 14 a b 0 (pos 0)
+fieldsOf (Greater a b) = fields 15 a b 0 (pos 0)
 
 -- the record of an equation: `decoded` and it are inverse (proofs/Encoding.antt)
 abbrev pub encoded : StreamType → Equation → Record

@@ -1,4 +1,5 @@
--- "A record is one of fourteen operators, each with its own operands". "Which operands each operator reads stands in a fixed table."
+-- "A record is one of fourteen operators, each with its own operands", and two more. "Which operands each operator reads stands in a
+-- fixed table."
 use Prim.Native.Nat.{ℕ}
 use mathlib.Core.List.{List, [], _∷_}
 use mathlib.Core.Bool.{Bool, true, false}
@@ -31,6 +32,8 @@ rows =
     ∷ row Own (Now Own) (Now Own) (Now ABool) Zero  -- 11: if c then a else b; c bool; a, b as s
     ∷ row Own (Now Own) (Now Own) Unused Zero  -- 12: a at instant 0, later b; as s
     ∷ row Own (Now Own) (Before Own) Unused Zero  -- 13: a at instant 0, later b one instant before; as s
+    ∷ row AnInt (Now AnInt) (Now AnInt) Unused Zero  -- 14: lesser of a and b; int
+    ∷ row AnInt (Now AnInt) (Now AnInt) Unused Zero  -- 15: greater of a and b; int
     ∷ []
 
 -- how many operators there are

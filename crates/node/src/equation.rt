@@ -11,8 +11,9 @@ pub enum StreamType {
     Int,
 }
 
-// One case an operator, 0 to 13 in order: "A record is one of fourteen operators, each with its own operands". They
-// stand in the order of the operator's value, K·a or a, b; where c comes first they have names.
+// One case an operator, 0 to 15 in order: "A record is one of fourteen operators, each with its own operands", and
+// "operators 14, lesser of a and b, and 15, greater, are added". Operands stand in the order of the operator's value,
+// K·a or a, b; where c comes first they have names.
 pub enum Equation {
     Input,
     Constant(i32),
@@ -34,6 +35,8 @@ pub enum Equation {
     Arrow(u16, u16),
     // a -> pre b
     FollowedBy(u16, u16),
+    Lesser(u16, u16),
+    Greater(u16, u16),
 }
 
 // The equation of a record; past the table, an input.
@@ -63,6 +66,8 @@ pub fn decode(r: Record) -> Equation
         },
         12 => Equation::Arrow(a, b),
         13 => Equation::FollowedBy(a, b),
+        14 => Equation::Lesser(a, b),
+        15 => Equation::Greater(a, b),
         _ => Equation::Input,
     }
 }

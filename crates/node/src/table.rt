@@ -140,8 +140,14 @@ const FOLLOWED_BY: Row = Row {
     k: Limit::Zero,
 };
 
+// 14: lesser of a and b
+const LESSER: Row = SUM;
+
+// 15: greater of a and b
+const GREATER: Row = SUM;
+
 // How many operators there are.
-pub const OPERATORS: u8 = 14;
+pub const OPERATORS: u8 = 16;
 
 // The row of an operator; past the table, that of an input.
 pub fn row_of(op: u8) -> Row
@@ -162,6 +168,8 @@ pub fn row_of(op: u8) -> Row
         11 => IF,
         12 => ARROW,
         13 => FOLLOWED_BY,
+        14 => LESSER,
+        15 => GREATER,
         _ => INPUT,
     }
 }

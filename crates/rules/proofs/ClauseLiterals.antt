@@ -10,7 +10,7 @@ use lib.Signed.{leZ}
 use Rattle.node.specs.declared.equation.StreamType.{StreamType}
 use Rattle.node.specs.declared.equation.StreamType.the-variants.{Bool as BoolType, Int as IntType}
 use Rattle.node.specs.declared.equation.Equation.{Equation}
-use Rattle.node.specs.declared.equation.Equation.the-variants.{Input, Constant, Not, And, Or, Same, Sum, Difference, Multiple, AtMost, Equal, If, Arrow, FollowedBy}
+use Rattle.node.specs.declared.equation.Equation.the-variants.{Input, Constant, Not, And, Or, Same, Sum, Difference, Multiple, AtMost, Equal, If, Arrow, FollowedBy, Lesser, Greater}
 use Rattle.node.specs.Equations.{constantOf}
 use Rattle.node.specs.Reads.{All, Read, rowFor, reads}
 use Rattle.node.specs.Table.{rowOf}
@@ -171,3 +171,21 @@ module _ {Q : Pattern → Type 0} where
         (guarded-same ty (Yes (now c)) (now b) (made .yes _ w) (r .1 .0 .at))
     each-literal now back ty (Arrow a b) place k r = first-then ty place (now a) (now b) (r .0 .at) (r .1 .0 .at)
     each-literal now back ty (FollowedBy a b) place k r = first-then ty place (now a) (back b) (r .0 .at) (r .1 .0 .before)
+    each-literal now back ty (Lesser a b) place k r =
+        let u = r .0 .at in
+        let v = r .1 .0 .at in (
+          one (most s (now a)) (made .at-most _ _ (made .own) u),
+          (
+            one (most s (now b)) (made .at-most _ _ (made .own) v),
+            (two (most (now a) s) (most (now b) s) (made .at-most _ _ u (made .own)) (made .at-most _ _ v (made .own)), tt),
+          ),
+        )
+    each-literal now back ty (Greater a b) place k r =
+        let u = r .0 .at in
+        let v = r .1 .0 .at in (
+          one (most (now a) s) (made .at-most _ _ u (made .own)),
+          (
+            one (most (now b) s) (made .at-most _ _ v (made .own)),
+            (two (most s (now a)) (most s (now b)) (made .at-most _ _ (made .own) u) (made .at-most _ _ (made .own) v), tt),
+          ),
+        )

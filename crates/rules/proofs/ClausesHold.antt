@@ -9,11 +9,13 @@ use native.Mathlib.Omega.{arith}
 use borrow.Author.Tests.{not-false}
 use lib.IntN.{ℤ, pos, negℤ, _+ℤ_, _-ℤ_, _*ℤ_}
 use lib.Signed.{leZ}
+use Rattle.integers.specs.Range.{lesser, greater}
 use Rattle.integers.proofs.Diff.{zify, by-diff2}
+use Rattle.integers.proofs.Order.{leZ-self, leZ-total}
 use Rattle.node.specs.declared.equation.StreamType.{StreamType}
 use Rattle.node.specs.declared.equation.StreamType.the-variants.{Bool as BoolType, Int as IntType}
 use Rattle.node.specs.declared.equation.Equation.{Equation}
-use Rattle.node.specs.declared.equation.Equation.the-variants.{Input, Constant, Not, And, Or, Same, Sum, Difference, Multiple, AtMost, Equal, If, Arrow, FollowedBy}
+use Rattle.node.specs.declared.equation.Equation.the-variants.{Input, Constant, Not, And, Or, Same, Sum, Difference, Multiple, AtMost, Equal, If, Arrow, FollowedBy, Lesser, Greater}
 use Rattle.node.specs.declared.table.Limit.the-variants.{Value}
 use Rattle.node.specs.Reads.{All, rowFor, reads, InRange, ConstantOk}
 use Rattle.node.specs.Table.{rowOf}
@@ -154,7 +156,29 @@ module _ (w : Valuation) (now back : ℕ → ℕ) (s : ℕ) (ty : StreamType) (p
   followed-true a b Unsure p row = tt
   followed-true a b Inner p row = same-true w ty s (back b) (row ∙ rw (p .0) (p .1 .1 .0))
 
-  -- all fourteen
+  -- ---- rows 14 and 15: by the order of the operands
+
+  lesser-true : (a b : ℕ) → RowOf (Lesser a b) → Hold (Lesser a b)
+  unfolding clauseTrue lesser
+  lesser-true a b row = go (leZ (w (now a)) (w (now b))) refl
+    where
+      go : (x : Bool) → leZ (w (now a)) (w (now b)) ≡ x → Hold (Lesser a b)
+      go true e = simp (most-is w, row, e, leZ-self (w (now a))) (refl, (refl, (refl, tt)))
+      go false e = simp (most-is w, row, e, leZ-self (w (now b)), leZ-total (w (now a)) (w (now b)) e) (refl, (refl, (refl, tt)))
+
+  greater-true : (a b : ℕ) → RowOf (Greater a b) → Hold (Greater a b)
+  unfolding clauseTrue greater
+  greater-true a b row = go (leZ (w (now a)) (w (now b))) refl
+    where
+      last : (x : Bool) → (x || true || false) ≡ true
+      last true = refl
+      last false = refl
+
+      go : (x : Bool) → leZ (w (now a)) (w (now b)) ≡ x → Hold (Greater a b)
+      go true e = simp (most-is w, row, e, leZ-self (w (now b))) (refl, (refl, (last (leZ (w (now b)) (w (now a))), tt)))
+      go false e = simp (most-is w, row, e, leZ-self (w (now a)), leZ-total (w (now a)) (w (now b)) e) (refl, (refl, (refl, tt)))
+
+  -- all sixteen
   pub clauses-true : (e : Equation) → ConstantOk ty e → PastAt place first past w back e → RowOf e → Hold e
   unfolding rowOf rowFor
   clauses-true Input k p row = tt
@@ -174,3 +198,5 @@ module _ (w : Valuation) (now back : ℕ → ℕ) (s : ℕ) (ty : StreamType) (p
   clauses-true (If c a b) k p row = if-true a b c row
   clauses-true (Arrow a b) k p row = arrow-true a b place p row
   clauses-true (FollowedBy a b) k p row = followed-true a b place p row
+  clauses-true (Lesser a b) k p row = lesser-true a b row
+  clauses-true (Greater a b) k p row = greater-true a b row

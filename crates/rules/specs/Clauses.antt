@@ -7,7 +7,7 @@ use lib.Signed.{leZ}
 use Rattle.node.specs.declared.equation.StreamType.{StreamType}
 use Rattle.node.specs.declared.equation.StreamType.the-variants.{Bool as BoolType, Int as IntType}
 use Rattle.node.specs.declared.equation.Equation.{Equation}
-use Rattle.node.specs.declared.equation.Equation.the-variants.{Input, Constant, Not, And, Or, Same, Sum, Difference, Multiple, AtMost, Equal, If, Arrow, FollowedBy}
+use Rattle.node.specs.declared.equation.Equation.the-variants.{Input, Constant, Not, And, Or, Same, Sum, Difference, Multiple, AtMost, Equal, If, Arrow, FollowedBy, Lesser, Greater}
 use Rattle.constraints.specs.Linear.{Bounded}
 use Rattle.rules.specs.declared.pattern.Linear.{Linear}
 use Rattle.rules.specs.declared.pattern.Pattern.{Pattern}
@@ -98,6 +98,10 @@ clauses ty (If c a b) at now back s =
     map (guarded (No (now c))) (sameAs ty s (now a)) ++ map (guarded (Yes (now c))) (sameAs ty s (now b))
 clauses ty (Arrow a b) at now back s = firstThen ty at s (now a) (now b)
 clauses ty (FollowedBy a b) at now back s = firstThen ty at s (now a) (back b)
+clauses ty (Lesser a b) at now back s =
+    clause1 (most s (now a)) ∷ clause1 (most s (now b)) ∷ clause2 (most (now a) s) (most (now b) s) ∷ []
+clauses ty (Greater a b) at now back s =
+    clause1 (most (now a) s) ∷ clause1 (most (now b) s) ∷ clause2 (most s (now a)) (most s (now b)) ∷ []
 
 -- "clause r, counted from 0"
 abbrev pub numbered : List Clause → ℕ → Named

@@ -5,7 +5,7 @@ use mathlib.Core.Bool.{Bool, true, false, not, cond, _||_, false≢true}
 use mathlib.Core.List.{List, [], _∷_}
 use lib.IntN.{ℤ}
 use Rattle.node.specs.declared.equation.Equation.{Equation}
-use Rattle.node.specs.declared.equation.Equation.the-variants.{Input, Constant, Not, And, Or, Same, Sum, Difference, Multiple, AtMost, Equal, If, Arrow, FollowedBy}
+use Rattle.node.specs.declared.equation.Equation.the-variants.{Input, Constant, Not, And, Or, Same, Sum, Difference, Multiple, AtMost, Equal, If, Arrow, FollowedBy, Lesser, Greater}
 use Rattle.node.specs.Reads.{Read, rowFor, reads, All}
 use Rattle.node.specs.Table.{rowOf}
 use Rattle.streams.specs.Meaning.{meaning}
@@ -44,6 +44,8 @@ meaning-rests (If c a b) g f p v q w h = rw (h .0 refl, h .1 .0 refl, h .1 .1 .0
 meaning-rests (Arrow a b) g f p v q w h = rw (h .0 refl, h .1 .0 refl)
 meaning-rests (FollowedBy a b) g true p v q w h = h .0 refl
 meaning-rests (FollowedBy a b) g false p v q w h = h .1 .0 refl
+meaning-rests (Lesser a b) g f p v q w h = rw (h .0 refl, h .1 .0 refl)
+meaning-rests (Greater a b) g f p v q w h = rw (h .0 refl, h .1 .0 refl)
 
 -- what holds of an operand that is read, in two assignments, from what holds of the values now and, past instant 0, of those before
 pub by-read : (P : ℤ → ℤ → Type 0) (now first : Bool) (x y z u : ℤ) → (now ≡ true → P x z) → (first ≡ false → P y u) → (now || not first) ≡ true → P (cond now x y) (cond now z u)

@@ -7,7 +7,7 @@ use Prim.Native.Nat.{ℕ, zero, suc}
 use lib.IntN.{ℤ}
 use Rattle.answers.specs.Answer.{accepted, NodeValues}
 use Rattle.node.specs.declared.equation.Equation.{Equation}
-use Rattle.node.specs.declared.equation.Equation.the-variants.{Input, Constant, Not, And, Or, Same, Sum, Difference, Multiple, AtMost, Equal, If, Arrow, FollowedBy}
+use Rattle.node.specs.declared.equation.Equation.the-variants.{Input, Constant, Not, And, Or, Same, Sum, Difference, Multiple, AtMost, Equal, If, Arrow, FollowedBy, Lesser, Greater}
 use Rattle.node.specs.Equations.{decoded}
 use Rattle.node.specs.Reads.{rowFor}
 use Rattle.node.specs.Table.{rowOf}
@@ -39,6 +39,8 @@ meaning-renamed names (Equal a b) g h f p v i = refl
 meaning-renamed names (If c a b) g h f p v i = refl
 meaning-renamed names (Arrow a b) g h f p v i = refl
 meaning-renamed names (FollowedBy a b) g h f p v i = refl
+meaning-renamed names (Lesser a b) g h f p v i = refl
+meaning-renamed names (Greater a b) g h f p v i = refl
 
 module _ (names : ℕ → ℕ) (node other : Node) (is : Renamed names node other) where
   -- the other node's values, under this one's numbers

@@ -9,7 +9,7 @@ use lib.Signed.{leZ}
 use Rattle.node.specs.declared.equation.StreamType.{StreamType}
 use Rattle.node.specs.declared.equation.StreamType.the-variants.{Bool as BoolType, Int as IntType}
 use Rattle.node.specs.declared.equation.Equation.{Equation}
-use Rattle.node.specs.declared.equation.Equation.the-variants.{Input, Constant, Not, And, Or, Same, Sum, Difference, Multiple, AtMost, Equal, If, Arrow, FollowedBy}
+use Rattle.node.specs.declared.equation.Equation.the-variants.{Input, Constant, Not, And, Or, Same, Sum, Difference, Multiple, AtMost, Equal, If, Arrow, FollowedBy, Lesser, Greater}
 use Rattle.node.specs.declared.table.Limit.the-variants.{Value}
 use Rattle.node.specs.Reads.{rowFor, reads, yields, wantedType, All, ReadOk, InRange, ConstantOk}
 use Rattle.node.specs.Table.{rowOf}
@@ -61,6 +61,8 @@ meaning-fits own (If c a b) g f p v y k i h = either-fits own (truth (v c)) (v a
 meaning-fits own (Arrow a b) g f p v y c i h = by-first (λ first. Fits own (meaning (Arrow a b) g first p v)) (search (h .0 refl, h .1 .0 refl)) f
 meaning-fits own (FollowedBy a b) g true p v y c i h = h .0 refl
 meaning-fits own (FollowedBy a b) g false p v y c i h = h .1 .0 refl
+meaning-fits own (Lesser a b) g f p v y c i h = an-int _ y
+meaning-fits own (Greater a b) g f p v y c i h = an-int _ y
 
 -- on typed inputs every row keeps its stream's type
 pub types-kept : (node : Node) → WellFormedNode node → (inputs : List ℤ) → TypedInstant node inputs → (first : Bool) → Keeps node (λ s. Fits (node .types s)) inputs first

@@ -1,9 +1,10 @@
--- The fourteen rows of the table of operators: "Value s".
+-- The sixteen rows of the table of operators: "Value s".
 use mathlib.Core.Bool.{Bool, not, cond, _&&_, _||_, Bool·beq}
 use lib.IntN.{ℤ, _+ℤ_, _-ℤ_, _*ℤ_}
 use lib.Signed.{leZ}
+use Rattle.integers.specs.Range.{lesser, greater}
 use Rattle.node.specs.declared.equation.Equation.{Equation}
-use Rattle.node.specs.declared.equation.Equation.the-variants.{Input, Constant, Not, And, Or, Same, Sum, Difference, Multiple, AtMost, Equal, If, Arrow, FollowedBy}
+use Rattle.node.specs.declared.equation.Equation.the-variants.{Input, Constant, Not, And, Or, Same, Sum, Difference, Multiple, AtMost, Equal, If, Arrow, FollowedBy, Lesser, Greater}
 use Rattle.streams.specs.Values.{number, truth, equals, Values}
 
 -- the value of a stream: `given` is its input, `first` says whether the instant is 0, `before` and `now` are the values of all
@@ -23,3 +24,5 @@ meaning (Equal a b) given first before now = number (equals (now a) (now b))  --
 meaning (If c a b) given first before now = cond (truth (now c)) (now a) (now b)  -- 11: if c then a else b
 meaning (Arrow a b) given first before now = cond first (now a) (now b)  -- 12: a at instant 0, later b
 meaning (FollowedBy a b) given first before now = cond first (now a) (before b)  -- 13: a at instant 0, later b one instant before
+meaning (Lesser a b) given first before now = lesser (now a) (now b)  -- 14: lesser of a and b
+meaning (Greater a b) given first before now = greater (now a) (now b)  -- 15: greater of a and b

@@ -8,6 +8,8 @@ use operators::chosen;
 use operators::either;
 use operators::equal;
 use operators::first_or_later;
+use operators::greater_of;
+use operators::lesser_of;
 use operators::minus;
 use operators::negation;
 use operators::plus;
@@ -54,5 +56,7 @@ pub fn value(e: Equation, given: i64, first: bool, past: &[i64], present: &[i64]
         } => chosen(present, then, otherwise, condition),
         Equation::Arrow(a, b) => first_or_later(first, present, a, present, b),
         Equation::FollowedBy(a, b) => first_or_later(first, present, a, past, b),
+        Equation::Lesser(a, b) => lesser_of(present, a, b),
+        Equation::Greater(a, b) => greater_of(present, a, b),
     }
 }

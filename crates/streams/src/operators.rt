@@ -5,13 +5,15 @@ use crate::operands::is_equal;
 use crate::operands::is_true;
 use integers::Checked;
 use integers::difference;
+use integers::greater;
+use integers::lesser;
 use integers::multiple;
 use integers::sum;
 ghost use mathlib.Core.Path.{_≡_};
 ghost use mathlib.Core.Bool.{not, cond, _&&_, _||_, Bool·beq};
 ghost use lib.IntN.{_+ℤ_, _-ℤ_, _*ℤ_};
 ghost use lib.Signed.{leZ};
-ghost use Rattle.integers.specs.Range.{checkedOf};
+ghost use Rattle.integers.specs.Range.{checkedOf, lesser, greater};
 ghost use Rattle.streams.specs.Values.{number, truth, equals, valuesIn};
 
 // A number that is there already.
@@ -117,4 +119,18 @@ pub fn first_or_later(first: bool, values: &[i64], a: u16, others: &[i64], b: u1
     } else {
         whole(entry(others, b))
     }
+}
+
+// lesser of a and b
+pub fn lesser_of(values: &[i64], a: u16, b: u16) -> Checked
+    ensures { λ r. ⌜ r ≡ checkedOf (lesser (valuesIn (now (values .entry)) a) (valuesIn (now (values .entry)) b)) ⌝ }
+{
+    whole(lesser(entry(values, a), entry(values, b)))
+}
+
+// greater of a and b
+pub fn greater_of(values: &[i64], a: u16, b: u16) -> Checked
+    ensures { λ r. ⌜ r ≡ checkedOf (greater (valuesIn (now (values .entry)) a) (valuesIn (now (values .entry)) b)) ⌝ }
+{
+    whole(greater(entry(values, a), entry(values, b)))
 }

@@ -104,6 +104,18 @@ enum-known-e-13 c = search needs
 first-or-later-requires-2 : tie.Need-first-or-later-requires-2
 first-or-later-requires-2 c κs = search needs
 
+enum-known-e-14 : tie.Need-enum-known-e-14
+enum-known-e-14 c = search needs
+
+lesser-of-requires : tie.Need-lesser-of-requires
+lesser-of-requires c κs = search needs
+
+enum-known-e-15 : tie.Need-enum-known-e-15
+enum-known-e-15 c = search needs
+
+greater-of-requires : tie.Need-greater-of-requires
+greater-of-requires c κs = search needs
+
 returns : tie.Need-returns
 returns c = rw (c .before .enum-told .given .1) (c .whole .ensures ∙ ap checkedOf (toZ-ofZ (c .before .before .before .fits .given)))
 
@@ -150,6 +162,12 @@ returns-13 c = rw (c .before .before .e12 .given .1) (c .first-or-later .ensures
 returns-14 : tie.Need-returns-14
 returns-14 c = rw (c .before .before .e13 .given .1) (c .first-or-later2 .ensures)
 
+returns-15 : tie.Need-returns-15
+returns-15 c = rw (c .before .before .e14 .given .1) (c .lesser-of .ensures)
+
+returns-16 : tie.Need-returns-16
+returns-16 c = rw (c .before .before .e15 .given .1) (c .greater-of .ensures)
+
 pub value-spec : {M : Type 1} → statement M
 value-spec =
     tie.close
@@ -184,6 +202,10 @@ value-spec =
     first-or-later-requires
     enum-known-e-13
     first-or-later-requires-2
+    enum-known-e-14
+    lesser-of-requires
+    enum-known-e-15
+    greater-of-requires
     returns
     returns-2
     returns-3
@@ -197,4 +219,6 @@ value-spec =
     returns-11
     returns-12
     returns-13
-    returns-14)
+    returns-14
+    returns-15
+    returns-16)

@@ -8,7 +8,7 @@ use mir.Val.{SFits}
 use mir.Facts.{toZ-ofZ}
 use borrow.Author.Needs.{needs}
 use Rattle.node.specs.declared.equation.StreamType.the-variants.{Bool as BoolType, Int as IntType}
-use Rattle.node.specs.declared.equation.Equation.the-variants.{Constant, Not, And, Or, Same, Multiple, AtMost, Equal, If}
+use Rattle.node.specs.declared.equation.Equation.the-variants.{Constant, Not, And, Or, Same, Multiple, AtMost, Equal, If, Lesser, Greater}
 use Rattle.constraints.specs.Linear.{variable}
 use Rattle.rules.specs.Clauses.{equalTo, firstThen}
 use Rattle.clauses.specs.Operators.{over}
@@ -170,6 +170,30 @@ back-requires c κs = search needs
 later-requires-2 : tie.Need-later-requires-2
 later-requires-2 c κs = search needs
 
+enum-known-e-14 : tie.Need-enum-known-e-14
+enum-known-e-14 c = search needs
+
+var-requires-24 : tie.Need-var-requires-24
+var-requires-24 c κs = search needs
+
+var-requires-25 : tie.Need-var-requires-25
+var-requires-25 c κs = search needs
+
+lesser-requires : tie.Need-lesser-requires
+lesser-requires c κs = search needs
+
+enum-known-e-15 : tie.Need-enum-known-e-15
+enum-known-e-15 c = search needs
+
+var-requires-26 : tie.Need-var-requires-26
+var-requires-26 c κs = search needs
+
+var-requires-27 : tie.Need-var-requires-27
+var-requires-27 c κs = search needs
+
+greater-requires : tie.Need-greater-requires
+greater-requires c κs = search needs
+
 returns : tie.Need-returns
 returns c = rw (c .enum-told .given .1)
 
@@ -274,6 +298,20 @@ returns-14 c =
     ∙ same-number (s .r)
     (same3 (firstThen (s .ty) (s .place)) (c .before .before .before .before .before .before .var .ensures) (c .before .before .var23 .ensures) (c .before .back .ensures)))
 
+returns-15 : tie.Need-returns-15
+returns-15 c =
+    rw (c .before .before .before .before .e14 .given .1)
+    (c .lesser .ensures
+    ∙ same-number (c .before .before .before .before .before .before .before .args .r)
+    (same3 (λ s a b. over IntType (Lesser a b) s) (c .before .before .before .before .before .before .var .ensures) (c .before .before .var24 .ensures) (c .before .var25 .ensures)))
+
+returns-16 : tie.Need-returns-16
+returns-16 c =
+    rw (c .before .before .before .before .e15 .given .1)
+    (c .greater .ensures
+    ∙ same-number (c .before .before .before .before .before .before .before .args .r)
+    (same3 (λ s a b. over IntType (Greater a b) s) (c .before .before .before .before .before .before .var .ensures) (c .before .before .var26 .ensures) (c .before .var27 .ensures)))
+
 pub clause-of-spec : {M : Type 1} → statement M
 clause-of-spec =
     tie.close
@@ -329,6 +367,14 @@ clause-of-spec =
     var-requires-23
     back-requires
     later-requires-2
+    enum-known-e-14
+    var-requires-24
+    var-requires-25
+    lesser-requires
+    enum-known-e-15
+    var-requires-26
+    var-requires-27
+    greater-requires
     returns
     returns-2
     returns-3
@@ -342,4 +388,6 @@ clause-of-spec =
     returns-11
     returns-12
     returns-13
-    returns-14)
+    returns-14
+    returns-15
+    returns-16)

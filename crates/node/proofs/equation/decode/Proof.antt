@@ -68,7 +68,15 @@ returns-14 c = rw (c .match .keys14)
 
 returns-15 : tie.Need-returns-15
 unfolding decoded
-returns-15 c = sym (List·getD-eq-default (equations (c .before .args .r)) _ (rest-le operators _ (c .match .rest)))
+returns-15 c = rw (c .match .keys15)
+
+returns-16 : tie.Need-returns-16
+unfolding decoded
+returns-16 c = rw (c .match .keys16)
+
+returns-17 : tie.Need-returns-17
+unfolding decoded
+returns-17 c = sym (List·getD-eq-default (equations (c .before .args .r)) _ (rest-le operators _ (c .match .rest)))
 
 pub decode-spec : {M : Type 1} → statement M
 decode-spec =
@@ -88,4 +96,6 @@ decode-spec =
     returns-12
     returns-13
     returns-14
-    returns-15)
+    returns-15
+    returns-16
+    returns-17)

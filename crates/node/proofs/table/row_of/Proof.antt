@@ -65,7 +65,15 @@ returns-14 c = rw (c .match .keys14)
 
 returns-15 : tie.Need-returns-15
 unfolding rowOf
-returns-15 c = sym (List·getD-eq-default rows _ (rest-le operators _ (c .match .rest)))
+returns-15 c = rw (c .match .keys15)
+
+returns-16 : tie.Need-returns-16
+unfolding rowOf
+returns-16 c = rw (c .match .keys16)
+
+returns-17 : tie.Need-returns-17
+unfolding rowOf
+returns-17 c = sym (List·getD-eq-default rows _ (rest-le operators _ (c .match .rest)))
 
 pub row-of-spec : {M : Type 1} → statement M
 row-of-spec =
@@ -85,4 +93,6 @@ row-of-spec =
     returns-12
     returns-13
     returns-14
-    returns-15)
+    returns-15
+    returns-16
+    returns-17)
