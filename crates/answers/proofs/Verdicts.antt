@@ -7,7 +7,9 @@ use Rattle.answers.specs.declared.CertificateVerdict.{CertificateVerdict
 use Rattle.answers.specs.declared.CertificateVerdict.the-variants.{Accepted as Proved, Refused as NotProved}
 use Rattle.answers.specs.declared.InstantVerdict.{InstantVerdict}
 use Rattle.answers.specs.declared.InstantVerdict.the-variants.{Answered, Refused as NotAnswered}
-use Rattle.answers.specs.Answer.{NodeValues, CertificateValues, nodeAnswer, certificateAnswer, instantAnswer}
+use Rattle.answers.specs.declared.ListedVerdict.{ListedVerdict}
+use Rattle.answers.specs.declared.ListedVerdict.the-variants.{Listed, Refused as NotListed}
+use Rattle.answers.specs.Answer.{NodeValues, CertificateValues, nodeAnswer, certificateAnswer, instantAnswer, listedAnswer}
 
 pub node-answer-tells : (v w : NodeVerdict) → nodeAnswer v ≡ nodeAnswer w → v ≡ w
 node-answer-tells (Accepted n p) (Accepted m q) e =
@@ -30,3 +32,9 @@ instant-answer-tells Answered Answered e = refl
 instant-answer-tells Answered (NotAnswered r at) e = cc
 instant-answer-tells (NotAnswered r at) Answered e = cc
 instant-answer-tells (NotAnswered r at) (NotAnswered s to) e = cc
+
+pub listed-answer-tells : (v w : ListedVerdict) → listedAnswer v ≡ listedAnswer w → v ≡ w
+listed-answer-tells Listed Listed e = refl
+listed-answer-tells Listed (NotListed r at) e = cc
+listed-answer-tells (NotListed r at) Listed e = cc
+listed-answer-tells (NotListed r at) (NotListed s to) e = cc

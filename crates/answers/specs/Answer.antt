@@ -1,5 +1,5 @@
 -- An answer as the paper gives it: accepted with its values, or refused with a number and a place. The promises of
--- reader, session and checker are stated by these, and not by the cases of the enums.
+-- reader, session, checker and flight list are stated by these, and not by the cases of the enums.
 use Prim.Native.Nat.{ℕ}
 use mathlib.Core.Bool.{Bool, true, false}
 use Rattle.answers.specs.declared.Place.{Place}
@@ -9,6 +9,8 @@ use Rattle.answers.specs.declared.CertificateVerdict.{CertificateVerdict
 use Rattle.answers.specs.declared.CertificateVerdict.the-variants.{Accepted as Proved, Refused as NotProved}
 use Rattle.answers.specs.declared.InstantVerdict.{InstantVerdict}
 use Rattle.answers.specs.declared.InstantVerdict.the-variants.{Answered, Refused as NotAnswered}
+use Rattle.answers.specs.declared.ListedVerdict.{ListedVerdict}
+use Rattle.answers.specs.declared.ListedVerdict.the-variants.{Listed, Refused as NotListed}
 
 -- "An answer is accepted .., or refused with a number and a place": A is what an accepted one carries
 pub data Answer (A : Type 0) : Type 0 where
@@ -46,3 +48,8 @@ certificateAnswer (NotProved number place) = refused number place
 abbrev pub instantAnswer : InstantVerdict → Answer (Unit {0})
 instantAnswer Answered = accepted tt
 instantAnswer (NotAnswered number place) = refused number place
+
+-- a listed node's answer carries nothing
+abbrev pub listedAnswer : ListedVerdict → Answer (Unit {0})
+listedAnswer Listed = accepted tt
+listedAnswer (NotListed number place) = refused number place

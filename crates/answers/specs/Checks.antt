@@ -6,12 +6,17 @@ use mathlib.Core.Bool.{Bool, true, false, _&&_}
 use Rattle.answers.specs.declared.Place.{Place}
 use Rattle.answers.specs.declared.Found.{Found}
 use Rattle.answers.specs.declared.Found.the-variants.{At, Nothing}
-use Rattle.answers.specs.Answer.{Answer, refused}
+use Rattle.answers.specs.Answer.{Answer, accepted, refused}
 
 -- one test: where it fails the answer is this refusal, else what the checks after it give
 abbrev pub check : {A : Type 0} → Bool → (number : ℕ) → Place → Answer A → Answer A
 check true number place rest = rest
 check false number place rest = refused number place
+
+-- where the checks before them pass, the answer is that of those after
+abbrev pub andThen : {A B : Type 0} → Answer A → Answer B → Answer B
+andThen (accepted a) rest = rest
+andThen (refused number place) rest = refused number place
 
 -- a test holds of each of the first n
 unfoldable pub every : (ℕ → Bool) → (n : ℕ) → Bool

@@ -1,4 +1,4 @@
-// The answers of reader, session and checker: accepted, or "refused with a number and a place". Each crate has the numbers of its
+// The answers of reader, session, checker and flight list: accepted, or "refused with a number and a place". Each crate has the numbers of its
 // own rules; specs/Answer.antt gives each case the number and the values that the published paper has for it.
 
 // The place of a refusal: "the file, a record, a constraint, a line or a part".
@@ -32,6 +32,12 @@ pub enum CertificateVerdict {
 // The answer to an instant's call: answered, or the number of the first rule that is broken, and where.
 pub enum InstantVerdict {
     Answered,
+    Refused(usize, Place),
+}
+
+// The answer to a node's table of ranges: the node is listed, or the number of the first rule that is broken, and where.
+pub enum ListedVerdict {
+    Listed,
     Refused(usize, Place),
 }
 

@@ -9,7 +9,7 @@ use Rattle.answers.specs.declared.Place.{Place}
 use Rattle.answers.specs.declared.Place.the-variants.{File, Record, Constraint, Line, Base, Step}
 use Rattle.answers.specs.Answer.{accepted, refused, NodeValues, CertificateValues}
 use Rattle.capi.specs.declared.told.Told.{Told}
-use Rattle.capi.specs.Answers.{placeNumber, placeIndex, toldAccepted, toldOf, toldRefused, toldNode, toldCertificate, toldInstant}
+use Rattle.capi.specs.Answers.{placeNumber, placeIndex, toldAccepted, toldOf, toldRefused, toldNode, toldCertificate, toldPlain}
 use Rattle.capi.specs.Theorems.{Tells, NumbersTell}
 
 -- the place that a number and an index tell
@@ -48,10 +48,10 @@ module _ {A : Type 0} (values : A → Told) (no-place : (a : A) → values a .pl
   tells (refused n p) (refused m q) e = let s = refusal-tells n m p q e in ap₂ refused (s .0) (s .1)
 
 pub numbers-tell : NumbersTell
-unfolding toldNode toldCertificate toldInstant
+unfolding toldNode toldCertificate toldPlain
 numbers-tell =
     record {
       node = tells (λ (v : NodeValues). toldAccepted (v .streams) (v .property) 0) (λ _. refl) (λ a b e i. record { streams = e i .first; property = e i .second });
       certificate = tells (λ (v : CertificateValues). toldAccepted (v .depth) (v .base) (v .step)) (λ _. refl) (λ a b e i. record { depth = e i .first; base = e i .second; step = e i .third });
-      instant = tells (λ (_ : Unit {0}). toldAccepted 0 0 0) (λ _. refl) (λ a b e. refl);
+      plain = tells (λ (_ : Unit {0}). toldAccepted 0 0 0) (λ _. refl) (λ a b e. refl);
     }

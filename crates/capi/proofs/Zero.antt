@@ -14,7 +14,7 @@ use Rattle.answers.specs.declared.Found.the-variants.{At, Nothing}
 use Rattle.answers.specs.declared.Place.{Place}
 use Rattle.answers.specs.declared.Place.the-variants.{File, Record as AtRecord, Constraint as AtConstraint, Line as AtLine, Base, Step}
 use Rattle.answers.specs.Answer.{Answer, accepted, refused, isAccepted, NodeValues, CertificateValues}
-use Rattle.answers.specs.Checks.{check, checkAll, lowest}
+use Rattle.answers.specs.Checks.{check, checkAll, every, lowest, andThen}
 use Rattle.answers.proofs.Lowest.{first}
 use Rattle.node.specs.declared.reading.RecordRule.the-variants.{Shape, Operands, Types}
 use Rattle.node.specs.Inputs.{inputCount}
@@ -28,12 +28,13 @@ use Rattle.streams.specs.Instant.{inputFits, valueInside, firstAlong}
 use Rattle.session.specs.declared.Session.{Session}
 use Rattle.session.specs.Instants.{workedOut, answerOf}
 use Rattle.session.specs.Records.{held, holdsNode}
+use Rattle.ranges.specs.Listing.{lengthOk as tableLengthOk, endsOk, resultsOk, tableVerdict, listingOf}
 use Rattle.constraints.specs.Layout.{trailerOf, lineOf}
 use Rattle.constraints.specs.Rules.{fixedOk, countsOk, distanceOk}
 use Rattle.rules.specs.Lines.{hasEmpty}
-use Rattle.rules.specs.Verdict.{linesOf, baseOf, stepOf, constraintPasses, lineFault, linePasses, checkLines, partsVerdict, linesVerdict, constraintsVerdict, fileVerdict, andThen, beforeLines, verdictOf}
+use Rattle.rules.specs.Verdict.{linesOf, baseOf, stepOf, constraintPasses, lineFault, linePasses, checkLines, partsVerdict, linesVerdict, constraintsVerdict, fileVerdict, beforeLines, verdictOf}
 use Rattle.capi.specs.declared.told.Told.{Told}
-use Rattle.capi.specs.Answers.{toldAccepted, toldOf, toldNode, toldCertificate, toldInstant}
+use Rattle.capi.specs.Answers.{toldAccepted, toldOf, toldNode, toldCertificate, toldPlain}
 use Rattle.capi.specs.Theorems.{ZeroAccepts}
 
 -- a refusal's number is above 0
@@ -126,15 +127,26 @@ instant-numbered s inputs room =
     (tested-all (firstAlong (orderOf (held s)) (valueInside (workedOut s inputs))) 34 AtRecord _ (omega arith)
     (none _)))))
 
+listing-numbered : (file : List ℕ) (table : List ℤ) → Numbered (listingOf file table)
+unfolding listingOf tableVerdict
+listing-numbered file table =
+    let n = streamsOf file in
+    after (nodeVerdict file) (tableVerdict file table) (node-numbered file)
+    (tested (tableLengthOk file table) 71 File _ (omega arith)
+    (tested (every (endsOk file table) n) 71 File _ (omega arith)
+    (tested-all (lowest (resultsOk file table) n) 72 AtRecord _ (omega arith)
+    (none _))))
+
 zero-accepts : {A : Type 0} (values : A → Told) (a : Answer A) → Numbered a → toldOf values a .number ≡ 0 → isAccepted a ≡ true
 zero-accepts values (accepted v) n e = refl
 zero-accepts values (refused number place) n e = absurd (not-zero _ number place n e)
 
 pub zero : ZeroAccepts
-unfolding toldNode toldCertificate toldInstant
+unfolding toldNode toldCertificate toldPlain
 zero =
     record {
       node = λ file. zero-accepts (λ (v : NodeValues). toldAccepted (v .streams) (v .property) 0) (nodeVerdict file) (node-numbered file);
       certificate = λ node cert. zero-accepts (λ (v : CertificateValues). toldAccepted (v .depth) (v .base) (v .step)) (verdictOf node cert) (verdict-numbered node cert);
       instant = λ s inputs room. zero-accepts (λ (_ : Unit {0}). toldAccepted 0 0 0) (answerOf s inputs room) (instant-numbered s inputs room);
+      ranges = λ file table. zero-accepts (λ (_ : Unit {0}). toldAccepted 0 0 0) (listingOf file table) (listing-numbered file table);
     }

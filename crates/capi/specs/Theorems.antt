@@ -1,20 +1,23 @@
 -- What is proved of the exported calls, stated without the proofs.
-use Prim.Native.Nat.{ℕ}
+use Prim.Native.Nat.{ℕ, _<_}
 use mathlib.Core.Path.{_≡_}
 use mathlib.Core.Bool.{true}
 use mathlib.Core.List.{List}
 use lib.IntN.{ℤ}
+use lib.ListN.{length}
 use Rattle.answers.specs.Answer.{Answer, isAccepted}
 use Rattle.node.specs.Verdict.{verdictOf as nodeVerdict}
 use Rattle.session.specs.declared.Session.{Session}
 use Rattle.session.specs.Instants.{answerOf}
-use Rattle.session.specs.Lists.{Call, afterAll, answered}
+use Rattle.session.specs.Lists.{Call, afterAll, answered, call}
 use Rattle.session.specs.Records.{begunOf}
 use Rattle.session.specs.Theorems.{Shows, Exact}
 use Rattle.rules.specs.Verdict.{verdictOf}
+use Rattle.ranges.specs.Listing.{listingOf}
+use Rattle.ranges.specs.Theorems.{InputsInside, StaysInside}
 use Rattle.soundness.specs.Demands.{Demanded}
 use Rattle.capi.specs.declared.told.Told.{Told}
-use Rattle.capi.specs.Answers.{toldNode, toldCertificate, toldInstant}
+use Rattle.capi.specs.Answers.{toldNode, toldCertificate, toldPlain}
 
 -- no two answers have the same numbers
 abbrev pub Tells : {A : Type 0} → (Answer A → Told) → Type 0
@@ -23,13 +26,14 @@ Tells {A} told = (a b : Answer A) → told a ≡ told b → a ≡ b
 pub record NumbersTell : Type 0 where
   pub node : Tells toldNode
   pub certificate : Tells toldCertificate
-  pub instant : Tells toldInstant
+  pub plain : Tells toldPlain
 
 -- number 0 says accepted
 pub record ZeroAccepts : Type 0 where
   pub node : (file : List ℕ) → toldNode (nodeVerdict file) .number ≡ 0 → isAccepted (nodeVerdict file) ≡ true
   pub certificate : (node cert : List ℕ) → toldCertificate (verdictOf node cert) .number ≡ 0 → isAccepted (verdictOf node cert) ≡ true
-  pub instant : (s : Session) (inputs : List ℤ) (room : ℕ) → toldInstant (answerOf s inputs room) .number ≡ 0 → isAccepted (answerOf s inputs room) ≡ true
+  pub instant : (s : Session) (inputs : List ℤ) (room : ℕ) → toldPlain (answerOf s inputs room) .number ≡ 0 → isAccepted (answerOf s inputs room) ≡ true
+  pub ranges : (file : List ℕ) (table : List ℤ) → toldPlain (listingOf file table) .number ≡ 0 → isAccepted (listingOf file table) ≡ true
 
 -- demand 2 of the exported calls, whatever bytes the record held: what is told of a call is told of the answer that `Exact` gives
 abbrev pub ExportedSessionsExact : Type 0
@@ -45,3 +49,13 @@ ExportedDemand3 =
     (node cert : List ℕ) → toldCertificate (verdictOf node cert) .number ≡ 0
     → (before : Session) (calls : List Call)
     → (toldNode (nodeVerdict node) .number ≡ 0) × Demanded node before calls
+
+-- listed nodes by the exported calls: the beginning's number is 0 too
+abbrev pub ExportedSessionsInside : Type 0
+ExportedSessionsInside =
+    (file : List ℕ) (table : List ℤ) → toldPlain (listingOf file table) .number ≡ 0
+    → (before : Session) (calls : List Call)
+    → let s = begunOf file before in
+    let done = answered s calls in
+    ((t : ℕ) → t < length done → InputsInside file table (call done t .inputs))
+    → (toldNode (nodeVerdict file) .number ≡ 0) × StaysInside file table (afterAll s calls) done

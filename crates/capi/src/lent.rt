@@ -8,7 +8,7 @@ ghost use lib.ListN.{length};
 ghost use Rattle.node.specs.Verdict.{verdictOf};
 ghost use Rattle.session.specs.Instants.{answerOf, sessionOf, sliceOf};
 ghost use Rattle.session.specs.Records.{begunOf};
-ghost use Rattle.capi.specs.Answers.{toldNode, toldInstant};
+ghost use Rattle.capi.specs.Answers.{toldNode, toldPlain};
 
 // A beginning: the record is set to an accepted file's node, before instant 0; a refusal leaves it.
 #[no_mangle]
@@ -21,7 +21,7 @@ pub extern "C" fn conuhawe_begin(s: &mut Session, file: &[u8]) -> Told
 // An instant's call: an answered one moves the record on and fills the slice; a refusal leaves both.
 #[no_mangle]
 pub extern "C" fn conuhawe_instant(s: &mut Session, inputs: &[i64], values: &mut [i64]) -> Told
-    ensures { λ r. ⌜ (r ≡ toldInstant (answerOf (now (s .entry)) (now (inputs .entry)) (length (now (values .entry)))))
+    ensures { λ r. ⌜ (r ≡ toldPlain (answerOf (now (s .entry)) (now (inputs .entry)) (length (now (values .entry)))))
         × (now (s .exit) ≡ sessionOf (now (s .entry)) (now (inputs .entry)) (length (now (values .entry))))
         × (now (values .exit) ≡ sliceOf (now (s .entry)) (now (inputs .entry)) (now (values .entry))) ⌝ }
 {

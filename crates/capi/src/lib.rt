@@ -1,4 +1,4 @@
-// The calls as C and Rust link them: over `node`, `session` and `certificate`, with answers in numbers.
+// The calls as C and Rust link them: over `node`, `session`, `certificate` and `ranges`, with answers in numbers.
 mod files;
 mod lent;
 mod told;
@@ -6,6 +6,7 @@ mod told;
 pub use files::conuhawe_certificate_note;
 pub use files::conuhawe_check;
 pub use files::conuhawe_node_note;
+pub use files::conuhawe_ranges;
 pub use files::conuhawe_read;
 pub use lent::conuhawe_begin;
 pub use lent::conuhawe_instant;

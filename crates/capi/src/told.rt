@@ -1,11 +1,12 @@
 // Answers in numbers.
 use answers::CertificateVerdict;
 use answers::InstantVerdict;
+use answers::ListedVerdict;
 use answers::NodeVerdict;
 use answers::Place;
 ghost use mathlib.Core.Path.{_≡_};
-ghost use Rattle.answers.specs.Answer.{nodeAnswer, certificateAnswer, instantAnswer};
-ghost use Rattle.capi.specs.Answers.{placeNumber, placeIndex, toldAccepted, toldRefused, toldNode, toldCertificate, toldInstant};
+ghost use Rattle.answers.specs.Answer.{nodeAnswer, certificateAnswer, instantAnswer, listedAnswer};
+ghost use Rattle.capi.specs.Answers.{placeNumber, placeIndex, toldAccepted, toldRefused, toldNode, toldCertificate, toldPlain};
 
 // An answer in numbers; specs/Answers.antt gives each.
 #[repr(C)]
@@ -89,10 +90,19 @@ pub fn told_certificate(verdict: CertificateVerdict) -> Told
 }
 
 pub fn told_instant(verdict: InstantVerdict) -> Told
-    ensures { λ r. ⌜ r ≡ toldInstant (instantAnswer verdict) ⌝ }
+    ensures { λ r. ⌜ r ≡ toldPlain (instantAnswer verdict) ⌝ }
 {
     match verdict {
         InstantVerdict::Answered => accepted(0, 0, 0),
         InstantVerdict::Refused(number, place) => refused(number, place),
+    }
+}
+
+pub fn told_listed(verdict: ListedVerdict) -> Told
+    ensures { λ r. ⌜ r ≡ toldPlain (listedAnswer verdict) ⌝ }
+{
+    match verdict {
+        ListedVerdict::Listed => accepted(0, 0, 0),
+        ListedVerdict::Refused(number, place) => refused(number, place),
     }
 }

@@ -18,9 +18,10 @@ use node::length_ok;
 ghost use Prim.Native.Nat.{ℕ};
 ghost use mathlib.Core.Path.{_≡_};
 ghost use Rattle.answers.specs.Answer.{certificateAnswer};
+ghost use Rattle.answers.specs.Checks.{andThen};
 ghost use Rattle.constraints.specs.Layout.{trailerOf};
 ghost use Rattle.constraints.specs.Rules.{typesOf};
-ghost use Rattle.rules.specs.Verdict.{typesOfNode, constraintsVerdict, fileVerdict, linesVerdict, andThen, verdictOf};
+ghost use Rattle.rules.specs.Verdict.{typesOfNode, constraintsVerdict, fileVerdict, linesVerdict, verdictOf};
 ghost use Rattle.certificate.specs.Checking.{NodePassed, FilePassed, openingOf};
 
 // What the checks of the certificate file and its constraints give: the trailer, or a refusal.

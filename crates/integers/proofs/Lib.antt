@@ -2,6 +2,7 @@
 pub mod Diff
 pub mod Ring
 pub mod Order
+pub mod Extremes
 pub mod Abs
 pub mod Rules
 pub mod Reading

@@ -2,13 +2,14 @@
 use mathlib.Core.Path.{_≡_}
 use mathlib.Core.Logic.{_↔_}
 use mathlib.Core.Bool.{true, false}
-use Prim.Native.Nat.{ℕ}
+use Prim.Native.Nat.{ℕ, suc}
 use native.Mathlib.Nat.{mul-le-mul-left}
 use native.Mathlib.Omega.{arith}
-use lib.IntN.{ℤ, pos, negℤ, _+ℤ_, _-ℤ_, _*ℤ_}
+use lib.IntN.{ℤ, pos, negsuc, negℤ, _+ℤ_, _-ℤ_, _*ℤ_}
 use lib.Signed.{leZ, ltZ, _≤ℤ_, _<ℤ_}
 pub use lib.Signed.{≤ℤ-refl, <ℤ-irrefl, <ℤ-≤ℤ-trans}
 use Rattle.integers.proofs.Diff.{zify, by-diff, by-diff2, by-diff3, by-diff4}
+use Rattle.integers.proofs.Ring.{negℤ-*ℤ}
 
 -- ---- the order itself
 
@@ -36,6 +37,16 @@ pub +ℤ-mono : (a b c d : ℤ) → a ≤ℤ b → c ≤ℤ d → (a +ℤ c) ≤
 
 pub *ℤ-mono : (k : ℕ) (a b : ℤ) → a ≤ℤ b → (pos k *ℤ a) ≤ℤ (pos k *ℤ b)
 *ℤ-mono k = by-diff2 _ (λ p q r s. simp zify (λ h. omega (arith, mul-le-mul-left k h)))
+
+pub -ℤ-mono : (a b c d : ℤ) → a ≤ℤ b → c ≤ℤ d → (a -ℤ d) ≤ℤ (b -ℤ c)
+-ℤ-mono = by-diff4 _ (λ p q r s t u v w. simp zify (omega arith))
+
+pub negℤ-flips : (a b : ℤ) → a ≤ℤ b → negℤ b ≤ℤ negℤ a
+negℤ-flips = by-diff2 _ (λ p q r s. simp zify (omega arith))
+
+-- below 0 a factor turns the order round
+pub *ℤ-flips : (n : ℕ) (a b : ℤ) → a ≤ℤ b → (negsuc n *ℤ b) ≤ℤ (negsuc n *ℤ a)
+*ℤ-flips n a b l = rw (negℤ-*ℤ (pos (suc n)) a, negℤ-*ℤ (pos (suc n)) b) (negℤ-flips _ _ (*ℤ-mono (suc n) a b l))
 
 -- ---- the tests
 

@@ -11,13 +11,14 @@ use Rattle.answers.specs.declared.Found.the-variants.{At, Nothing}
 use Rattle.answers.specs.declared.Place.{Place}
 use Rattle.answers.specs.declared.Place.the-variants.{File, Constraint as AtConstraint, Line as AtLine, Base, Step}
 use Rattle.answers.specs.Answer.{Answer, accepted, refused, NodeValues, CertificateValues}
+use Rattle.answers.specs.Checks.{andThen}
 use Rattle.answers.proofs.Checks.{by-check, by-check-all}
 use Rattle.answers.proofs.Lowest.{none, all, first}
 use Rattle.node.specs.Outcome.{NodeRules}
 use Rattle.node.specs.Verdict.{verdictOf as nodeVerdict}
 use Rattle.node.proofs.Outcomes.{accepted-keeps as node-keeps, refused-first as node-first, keeps-accepted as node-accepted}
 use Rattle.rules.specs.Outcome.{FileRules, LinesKeep, CertificateRules, BeforeLines, FirstFailure, in-node, at-11, at-12, at-13, at-14, at-15, at-21-base, at-21-step, Says}
-use Rattle.rules.specs.Verdict.{linesOf, valuesOf, shapePasses, lineFault, linePasses, checkLines, partsVerdict, linesVerdict, constraintsVerdict, fileVerdict, andThen, beforeLines, verdictOf}
+use Rattle.rules.specs.Verdict.{linesOf, valuesOf, shapePasses, lineFault, linePasses, checkLines, partsVerdict, linesVerdict, constraintsVerdict, fileVerdict, beforeLines, verdictOf}
 use Rattle.rules.proofs.LineFaults.{KindRules, line-kept, line-passes, line-broken}
 use Rattle.rules.proofs.Matches.{equation-means, equation-test}
 

@@ -8,7 +8,7 @@ use Rattle.answers.specs.declared.Found.{Found}
 use Rattle.answers.specs.declared.Found.the-variants.{At, Nothing}
 use Rattle.answers.specs.declared.Place.the-variants.{File, Constraint as AtConstraint, Line as AtLine, Base, Step}
 use Rattle.answers.specs.Answer.{Answer, accepted, refused, CertificateValues}
-use Rattle.answers.specs.Checks.{check, checkAll, lowest}
+use Rattle.answers.specs.Checks.{check, checkAll, lowest, andThen}
 use Rattle.node.specs.Equations.{typeAt, equationAt}
 use Rattle.node.specs.Layout.{streamsOf, propertyOf}
 use Rattle.node.specs.Rules.{lengthOk}
@@ -137,11 +137,6 @@ fileVerdict node cert =
     (check (countsOk (trailerOf cert)) 13 File
     (check (distanceOk (trailerOf cert) (length cert)) 14 File
     (constraintsVerdict node cert))))
-
--- where the checks before them pass, the answer is that of those after
-abbrev pub andThen : {A B : Type 0} → Answer A → Answer B → Answer B
-andThen (accepted a) rest = rest
-andThen (refused number place) rest = refused number place
 
 -- the checks before any line: "Certificate checks follow 1 to 8."
 unfoldable pub beforeLines : (node cert : List ℕ) → Answer (Unit {0})

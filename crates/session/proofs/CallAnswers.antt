@@ -2,12 +2,13 @@
 -- solution's values.
 -- Assumes nothing.
 use mathlib.Core.Path.{_≡_, refl, _∙_, ap, ap₂}
-use mathlib.Core.Bool.{Bool, true, false}
+use mathlib.Core.Bool.{Bool, true, false, not, _||_}
 use mathlib.Core.List.{List}
 use Prim.Native.Nat.{ℕ, _<_}
 use native.Mathlib.Omega.{arith}
-use borrow.Author.Tests.{eqb-true}
+use borrow.Author.Tests.{eq-eqb, eqb-true}
 use lib.Dec.{eqb}
+use lib.IntN.{ℤ}
 use lib.ListN.{length, getD}
 use Rattle.integers.specs.Range.{inside}
 use Rattle.answers.specs.declared.Found.{Found}
@@ -16,9 +17,9 @@ use Rattle.answers.specs.declared.Place.the-variants.{File, Record as AtRecord}
 use Rattle.answers.specs.Answer.{Answer, accepted, NodeValues}
 use Rattle.answers.specs.Checks.{lowest}
 use Rattle.answers.proofs.Checks.{by-check, by-check-all}
-use Rattle.answers.proofs.Lowest.{all, lowest-same}
+use Rattle.answers.proofs.Lowest.{none, all, lowest-same}
 use Rattle.node.specs.Equations.{typeAt, equationAt}
-use Rattle.node.specs.Inputs.{inputCount}
+use Rattle.node.specs.Inputs.{isInput, inputCount}
 use Rattle.node.specs.Layout.{streamsOf}
 use Rattle.node.specs.Reads.{orderOf}
 use Rattle.node.specs.Verdict.{verdictOf}
@@ -26,9 +27,9 @@ use Rattle.node.proofs.WellFormedness.{accepted-well-formed}
 use Rattle.streams.specs.Instant.{inputFits, valueInside, atPlace, firstOf, firstAlong}
 use Rattle.streams.specs.Nodes.{Node, nodeOf, nodeOrder}
 use Rattle.streams.specs.Solutions.{Streams}
-use Rattle.streams.specs.Typing.{TypedInstant, given}
+use Rattle.streams.specs.Typing.{TypedInstant, fitsTest, given}
 use Rattle.streams.specs.Values.{Values, valuesIn}
-use Rattle.node.proofs.InputCounts.{equation-input}
+use Rattle.node.proofs.InputCounts.{input-equation, equation-input}
 use Rattle.streams.proofs.Numbers.{fits-test}
 use Rattle.session.specs.declared.Session.{Session}
 use Rattle.session.specs.Instants.{workedOut, inOrder, answerOf}
@@ -54,9 +55,21 @@ first-same file e f g h =
     ap (atPlace (orderOf file))
     (lowest-same (λ k. f (getD (orderOf file) k 0)) (λ k. g (getD (orderOf file) k 0)) (length (orderOf file)) (λ k l. h (getD (orderOf file) k 0) (ordered .names k (omega (arith, ordered .size)))))
 
+-- typed inputs pass 31 and 33 ..
+module _ (file : List ℕ) (inputs : List ℤ) (is : TypedInstant (nodeOf file) inputs) where
+  pub typed-count : eqb (length inputs) (inputCount file) ≡ true
+  typed-count = eq-eqb _ _ (is .count)
+
+  pub typed-inputs : lowest (inputTyped file inputs) (streamsOf file) ≡ Nothing
+  typed-inputs = none (inputTyped file inputs) (streamsOf file) (λ i l. go i l (isInput file i) refl)
+    where
+      go : (i : ℕ) → i < streamsOf file → (b : Bool) → isInput file i ≡ b → (not b || fitsTest (typeAt file i) (given (nodeOf file) inputs i)) ≡ true
+      go i l true f = fits-test (typeAt file i) (given (nodeOf file) inputs i) .1 (is .fits i l (input-equation (equationAt file i) f))
+      go i l false f = refl
+
 module _ (file : List ℕ) {node : NodeValues} (e : verdictOf file ≡ accepted node) (c : Call) where
-  -- inputs that pass 31 and 33 are typed
-  typed : eqb (length (c .inputs)) (inputCount file) ≡ true → lowest (inputTyped file (c .inputs)) (streamsOf file) ≡ Nothing → TypedInstant (nodeOf file) (c .inputs)
+  -- .. and inputs that pass them are typed
+  pub typed : eqb (length (c .inputs)) (inputCount file) ≡ true → lowest (inputTyped file (c .inputs)) (streamsOf file) ≡ Nothing → TypedInstant (nodeOf file) (c .inputs)
   typed count input =
       record {
         count = eqb-true _ _ count;

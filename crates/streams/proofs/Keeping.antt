@@ -1,10 +1,11 @@
--- What each operator keeps, every value of a solution has: by the rank of the streams at an instant, then instant after instant.
+-- What each operator keeps up to an instant, every value of a solution there has: by the rank of the streams at an instant, then
+-- instant after instant.
 -- Assumes nothing.
 use mathlib.Core.Path.{_≡_, sym, subst}
 use mathlib.Core.Bool.{Bool, true, false, true≢false}
 use mathlib.Core.List.{List}
-use Prim.Native.Nat.{ℕ, zero, suc, _<_}
-use native.Mathlib.Nat.{not-suc-le-zero, lt-suc-self}
+use Prim.Native.Nat.{ℕ, zero, suc, _<_, _≤_}
+use native.Mathlib.Nat.{not-suc-le-zero, le-refl, lt-suc-self}
 use native.Mathlib.Omega.{arith}
 use lib.IntN.{ℤ}
 use Rattle.node.specs.Reads.{Read, reads, All}
@@ -37,8 +38,8 @@ module _ (node : Node) (rank : ℕ → ℕ) (ranked : Ranked node rank) (Q : ℕ
       (λ e. past e (r .stream) (ok .below)))
       (reads (node .equations s)) (ranked s l)))
 
-  pub solution-keeps : (inputs : Inputs) (values : Streams) → AllRows node inputs values → ((t : ℕ) → Keeps node Q (inputs t) (isFirst t)) → (t s : ℕ) → s < node .streams → Q s (values t s)
-  solution-keeps inputs values rows keeps zero s l =
-      instant-keeps (inputs zero) true (before values zero) (values zero) (keeps zero) (rows zero) (λ e. absurd (true≢false e)) (suc (rank s)) s l (lt-suc-self (rank s))
-  solution-keeps inputs values rows keeps (suc t) s l =
-      instant-keeps (inputs (suc t)) false (values t) (values (suc t)) (keeps (suc t)) (rows (suc t)) (λ e. solution-keeps inputs values rows keeps t) (suc (rank s)) s l (lt-suc-self (rank s))
+  pub solution-keeps : (inputs : Inputs) (values : Streams) → AllRows node inputs values → (t : ℕ) → ((j : ℕ) → j ≤ t → Keeps node Q (inputs j) (isFirst j)) → (s : ℕ) → s < node .streams → Q s (values t s)
+  solution-keeps inputs values rows zero keeps s l =
+      instant-keeps (inputs zero) true (before values zero) (values zero) (keeps zero (le-refl zero)) (rows zero) (λ e. absurd (true≢false e)) (suc (rank s)) s l (lt-suc-self (rank s))
+  solution-keeps inputs values rows (suc t) keeps s l =
+      instant-keeps (inputs (suc t)) false (values t) (values (suc t)) (keeps (suc t) (le-refl (suc t))) (rows (suc t)) (λ e. solution-keeps inputs values rows t (λ j m. keeps j (omega arith))) (suc (rank s)) s l (lt-suc-self (rank s))

@@ -73,6 +73,6 @@ types-kept node wf inputs typed first s l p v h =
     (reads (node .equations s)) (wf .operands s l) h)
 
 pub rows-fit : (node : Node) → WellFormedNode node → (inputs : Inputs) → TypedInputs node inputs → (values : Streams) → AllRows node inputs values → (t s : ℕ) → s < node .streams → Fits (node .types s) (values t s)
-rows-fit node wf inputs typed values rows =
-    solution-keeps node (placeOf node) (ranked-by-place node wf) (λ s. Fits (node .types s)) inputs values rows
-    (λ t. types-kept node wf (inputs t) (typed t) (isFirst t))
+rows-fit node wf inputs typed values rows t =
+    solution-keeps node (placeOf node) (ranked-by-place node wf) (λ s. Fits (node .types s)) inputs values rows t
+    (λ j l. types-kept node wf (inputs j) (typed j) (isFirst j))

@@ -27,7 +27,7 @@ use Rattle.session.proofs.Session as Record
 use Rattle.session.proofs.instant as below
 use Rattle.session.proofs.instant.Symbol as below-def
 use Rattle.session.proofs.instant.Met as below-thm
-use Rattle.capi.specs.Answers.{toldInstant}
+use Rattle.capi.specs.Answers.{toldPlain}
 use Rattle.capi.proofs.PassedOn.{Passing, Below, Tell, Whole, at-tell, answered, told, spelt, Walk, by-walk}
 use Rattle.capi.proofs.told.told_instant.Symbol as tell-def
 use Rattle.capi.proofs.told.told_instant.Met as tell-thm
@@ -45,9 +45,9 @@ module _ {M : Type 1} (𝓤 : URA M) (H : Heap 𝓤) (𝓜 : Model 𝓤 H) (𝓖
     verdict = Verdict.the-row;
     lawful = EL.lawful Verdict.the-type Verdict′.the-laws 𝓤 H (𝓖 .A) (givenOf 𝓤 H 𝓜 𝓖) tt;
     says = λ κs a r e. below.clauses 𝓤 H (𝓖 .A) (𝓜 .mem) (𝓡 .run) κs a .ensures tt r e;
-    tell = λ r. toldInstant (instantAnswer r);
+    tell = λ r. toldPlain (instantAnswer r);
     tells = λ κs a n e. me.clauses 𝓤 H (𝓖 .A) (𝓜 .mem) (𝓡 .run) κs a .ensures tt n e;
-    turns = λ κs a r n e q. fact-mono 𝓤 _ _ (λ s. (q ∙ ap toldInstant (s .0), s .1, s .2));
+    turns = λ κs a r n e q. fact-mono 𝓤 _ _ (λ s. (q ∙ ap toldPlain (s .0), s .1, s .2));
   }
 
   walk : Walk passing (givenOf 𝓤 H 𝓜 𝓖) code.function below-def.name tell-def.name

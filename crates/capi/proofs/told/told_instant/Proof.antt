@@ -4,7 +4,7 @@ use mathlib.Core.Path.{sym, _∙_, ap}
 use Rattle.answers.specs.declared.InstantVerdict.{InstantVerdict}
 use Rattle.answers.specs.Answer.{instantAnswer}
 use Rattle.capi.specs.declared.told.Told.{Told}
-use Rattle.capi.specs.Answers.{toldInstant}
+use Rattle.capi.specs.Answers.{toldPlain}
 use borrow.Author.Needs.{needs}
 use Rattle.capi.proofs.told.told_instant.Statement.{statement}
 use Rattle.capi.proofs.told.told_instant.Tie as tie
@@ -22,14 +22,14 @@ refused-requires : tie.Need-refused-requires
 refused-requires c κs = search needs
 
 abbrev told-of : InstantVerdict → Told
-told-of v = toldInstant (instantAnswer v)
+told-of v = toldPlain (instantAnswer v)
 
 returns : tie.Need-returns
-unfolding toldInstant
+unfolding toldPlain
 returns c = c .accepted .ensures ∙ sym (ap told-of (c .before .enum-told .given .1))
 
 returns-2 : tie.Need-returns-2
-unfolding toldInstant
+unfolding toldPlain
 returns-2 c = c .refused .ensures ∙ sym (ap told-of (c .before .before .verdict .given .1))
 
 pub told-instant-spec : {M : Type 1} → statement M

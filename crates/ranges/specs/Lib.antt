@@ -1,0 +1,5 @@
+pub mod Listing
+pub mod Outcome
+pub mod Results
+pub mod Table
+pub mod Theorems
