@@ -15,22 +15,13 @@ use Rattle.node.specs.declared.table.Operand.{Operand}
 use Rattle.node.specs.declared.table.Operand.the-variants.{Unused, Now, Before}
 use Rattle.node.specs.declared.table.Row.{Row}
 use Rattle.node.specs.Equations.{decoded}
-use Rattle.node.specs.Layout.{recordOf}
 use Rattle.node.specs.Order.{isAmong, allAmong}
-use Rattle.node.specs.Ordering.{noStream, neededAs, packed, firstPart, secondPart, thirdPart, packedNeeds, HoldNeeds, isFlagged, readyBy}
+use Rattle.node.specs.Ordering.{noStream, neededAs, packed, firstPart, secondPart, thirdPart, packedNeeds, isFlagged, readyBy}
 use Rattle.node.specs.Reads.{Read, reading, neededIn, neededNow}
 use Rattle.node.specs.Rules.{shapeOk, isStream, operandsOk}
 use Rattle.node.specs.Table.{rowOf}
 use Rattle.node.proofs.Different.{among-append, or-right}
 use Rattle.node.proofs.Needs.{operand-streams, needed-is}
-
--- the needs of one record more
-pub needs-more : (file needs : List ℕ) (i : ℕ) {made : ℕ} → HoldNeeds file i needs → i < length needs → made ≡ packedNeeds (recordOf file i) → HoldNeeds file (i + 1) (set needs i made)
-needs-more file needs i {made} hold l e k h = go (ℕ-discrete k i)
-  where
-    go : Dec (k ≡ i) → getD (set needs i made) k 0 ≡ packedNeeds (recordOf file k)
-    go (yes p) = rw p (getD-set-same needs i made 0 l ∙ e)
-    go (no n) = getD-set-other needs i k made 0 n ∙ hold k (omega arith)
 
 -- ---- three operands in one number
 

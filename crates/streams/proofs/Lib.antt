@@ -8,7 +8,6 @@ pub mod Orders
 pub mod Reading
 pub mod Renaming
 pub mod Results
-pub mod Spreading
 pub mod Typed
 pub mod Types
 pub mod WorkingOut

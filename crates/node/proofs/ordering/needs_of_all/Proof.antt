@@ -4,9 +4,11 @@ use mathlib.Core.Path.{_≡_, refl, _∙_, ap}
 use Prim.Native.Nat.{_-_, _≤_}
 use native.Mathlib.Nat.{not-suc-le-zero}
 use native.Mathlib.Omega.{arith}
+use denote.Ref.{now}
 use lib.ListN.{length, length-set}
+use Rattle.answers.proofs.Entries.{entries-more}
+use Rattle.node.specs.Layout.{recordOf}
 use Rattle.node.specs.Ordering.{packedNeeds, HoldNeeds}
-use Rattle.node.proofs.Flags.{needs-more}
 use Rattle.node.proofs.Records.{record-among}
 use borrow.Author.Needs.{needs}
 use Rattle.node.proofs.ordering.needs_of_all.Statement.{statement}
@@ -46,7 +48,7 @@ loop-again c =
     let made = c .needs-of .ensures ∙ ap packedNeeds (c .before .record-among .ensures ∙ record-among _ _ (s .pre .0) _) in (
       search needs,
       simp length-set (at .loop .inv .1),
-      λ k l. needs-more _ (at .loop .needs) (at .loop .i) (at .loop .inv .2) (omega (arith, at .loop .inv .1, s .pre .1)) made k l,
+      entries-more (λ k. packedNeeds (recordOf (now (s .args .file)) k)) 0 (at .loop .needs) (at .loop .i) (at .loop .inv .2) (omega (arith, at .loop .inv .1, s .pre .1)) made,
     )
 
 returns : tie.Need-returns Inv-loop μ-loop

@@ -5,15 +5,18 @@ use Prim.Native.Nat.{_-_, _<_, _≤_, _^_}
 use native.Mathlib.Nat.{not-suc-le-zero}
 use native.Mathlib.Omega.{arith}
 use denote.Ref.{now}
+use lib.IntN.{pos}
 use lib.ListN.{length, length-set}
 use mir.Syntax.{w64}
 use mir.Val.{SFits}
 use mir.Facts.{toZ-ofZ}
+use Rattle.answers.proofs.Entries.{entries-more}
 use Rattle.node.specs.Inputs.{inputsBelow}
 use Rattle.node.proofs.InputCounts.{inputs-le, inputs-more}
 use Rattle.streams.specs.Instant.{HoldInputs}
+use Rattle.streams.specs.Nodes.{nodeOf}
+use Rattle.streams.specs.Typing.{given}
 use Rattle.streams.specs.Values.{valuesIn}
-use Rattle.streams.proofs.Spreading.{inputs-hold-more}
 use borrow.Author.Needs.{needs}
 use Rattle.streams.proofs.values.spread.Statement.{statement}
 use Rattle.streams.proofs.values.spread.Tie as tie
@@ -56,7 +59,7 @@ loop-again c =
       search needs,
       simp length-set (inv .1),
       c .with-record .ensures ∙ inputs-more _ _ _ _ (s .pre .0) fits (inv .2),
-      inputs-hold-more (now (s .args .file)) (now (s .args .inputs)) (at .loop .given) (at .loop .i) (inv .3) (omega (arith, inv .1, s .pre .1))
+      entries-more (given (nodeOf (now (s .args .file))) (now (s .args .inputs))) (pos 0) (at .loop .given) (at .loop .i) (inv .3) (omega (arith, inv .1, s .pre .1))
           (toZ-ofZ f ∙ c .before .number-at .ensures ∙ ap (valuesIn (now (s .args .inputs))) (inv .2)),
     )
 
