@@ -122,6 +122,16 @@ impl Record {
         Record::new(13, type_byte, [a, b, 0], 0)
     }
 
+    /// Operator 14, lesser of a and b.
+    pub const fn lesser(a: u16, b: u16) -> Self {
+        Record::new(14, INT, [a, b, 0], 0)
+    }
+
+    /// Operator 15, greater of a and b.
+    pub const fn greater(a: u16, b: u16) -> Self {
+        Record::new(15, INT, [a, b, 0], 0)
+    }
+
     /// The record's 16 bytes.
     pub fn bytes(&self) -> Vec<u8> {
         let mut bytes = vec![self.operator, self.type_byte];

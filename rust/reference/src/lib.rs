@@ -1,7 +1,7 @@
 //! An independent implementation of "Induction certificates for Lustre
 //! booking nodes", called 01 in these comments, and of the requests that
-//! change it, called 02: the node reader, the session and the certificate
-//! checker, over whole files and with no shared code.
+//! change it, called 02: the node reader, the session, the certificate
+//! checker and the check of ranges, over whole files and with no shared code.
 //!
 //! Every call is total: whatever the bytes, it answers or refuses, and it
 //! neither panics nor overflows.
@@ -14,5 +14,6 @@ pub mod build;
 pub mod certificate;
 pub mod list;
 pub mod node;
+pub mod ranges;
 pub mod session;
 pub mod wide;

@@ -119,6 +119,20 @@ pub enum Equation {
         /// Operand b.
         b: u8,
     },
+    /// 14: lesser of a and b.
+    Lesser {
+        /// Operand a.
+        a: u8,
+        /// Operand b.
+        b: u8,
+    },
+    /// 15: greater of a and b.
+    Greater {
+        /// Operand a.
+        a: u8,
+        /// Operand b.
+        b: u8,
+    },
 }
 
 /// A booking node: a node file that passed 1 to 8 and 23.
@@ -217,7 +231,7 @@ impl Row {
 }
 
 /// 01: "Which operands each operator reads stands in a fixed table."
-const ROWS: [Row; 14] = {
+const ROWS: [Row; 16] = {
     use Operand::{Before, Now, Unused};
     use Wanted::{AsResult, Is};
     const BOOL: Option<Type> = Some(Type::Bool);
@@ -240,6 +254,8 @@ const ROWS: [Row; 14] = {
         Row::new(None, same_now, same_now, bool_now),
         Row::new(None, same_now, same_now, Unused),
         Row::new(None, same_now, Before(AsResult), Unused),
+        Row::new(INT, int_now, int_now, Unused),
+        Row::new(INT, int_now, int_now, Unused),
     ]
 };
 
@@ -297,7 +313,7 @@ impl Fields {
         }
     }
 
-    /// The operator's row, if the operator is not over 13.
+    /// The operator's row, if the operator is not over 15.
     fn row(&self) -> Option<&'static Row> {
         ROWS.get(usize::from(self.operator))
     }
@@ -326,7 +342,7 @@ impl Fields {
     }
 
     /// Refusal 5: "operator over 13, type byte over 1, K against its rule,
-    /// unused field not 0".
+    /// unused field not 0". 02: "5 now says over 15".
     fn is_well_formed(&self) -> bool {
         let Some(row) = self.row() else {
             return false;
@@ -385,7 +401,7 @@ impl Fields {
     }
 
     /// The equation of a record that passed 5 and 6: its operands are then
-    /// below 64 and its operator is not over 13.
+    /// below 64 and its operator is not over 15.
     fn equation(&self) -> Equation {
         let [a, b, c] = self.operands.map(|stream| stream.to_le_bytes()[0]);
         let k = self.k;
@@ -403,7 +419,9 @@ impl Fields {
             10 => Equation::Equal { a, b },
             11 => Equation::Choice { a, b, c },
             12 => Equation::Arrow { a, b },
-            _ => Equation::ArrowPre { a, b },
+            13 => Equation::ArrowPre { a, b },
+            14 => Equation::Lesser { a, b },
+            _ => Equation::Greater { a, b },
         }
     }
 }

@@ -153,6 +153,8 @@ fn value(own: usize, equation: Equation, now: &Values, before: Option<&Values>) 
         Equation::Choice { a, b, c } => at(if at(c) == 1 { a } else { b }),
         Equation::Arrow { a, b } => at(if before.is_none() { a } else { b }),
         Equation::ArrowPre { a, b } => before.map_or(at(a), |last| last[usize::from(b)]),
+        Equation::Lesser { a, b } => at(a).min(at(b)),
+        Equation::Greater { a, b } => at(a).max(at(b)),
     };
     i128::from(fitting)
 }

@@ -6,11 +6,11 @@ mod examples;
 
 use common::{accepted, two_bands};
 use examples::{
-    certified, counter, first_only, five_then_nothing, int_ring, never, nothing_doubled, one_more,
-    one_more_certificate, ring, ten_at_most, twins,
+    brought_inside, certified, counter, first_only, five_then_nothing, int_ring, never,
+    nothing_doubled, one_more, one_more_certificate, ring, ten_at_most, ten_is_the_lesser, twins,
 };
 use reference::build::search::certificate;
-use reference::build::{orders, CertificateFile, NodeFile};
+use reference::build::{orders, CertificateFile, NodeFile, Record};
 use reference::certificate::check;
 
 /// The certificate found for the node.
@@ -62,6 +62,22 @@ fn operator_13() {
     for depth in [1, 2] {
         accepted(&counter(), &found(&counter(), depth));
         accepted(&twins(), &found(&twins(), depth));
+    }
+}
+
+#[test]
+fn operators_14_and_15() {
+    for depth in [1, 2] {
+        accepted(&brought_inside(), &found(&brought_inside(), depth));
+        accepted(&ten_is_the_lesser(), &found(&ten_is_the_lesser(), depth));
+    }
+    // Each for the other: then the property is false on some input.
+    for (at, record) in [(3, Record::lesser(0, 1)), (4, Record::greater(3, 2))] {
+        let mut other = brought_inside();
+        other.records[at] = record;
+        assert_eq!(certificate(&other.bytes(), 1), None);
+        let certificate = found(&brought_inside(), 1);
+        assert!(check(&other.bytes(), &certificate.bytes()).is_err());
     }
 }
 

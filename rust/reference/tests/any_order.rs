@@ -88,6 +88,10 @@ fn through_each_slot(at: u16) -> Vec<Record> {
         Record::at_most(1, at),
         Record::equal(at, 1),
         Record::equal(1, at),
+        Record::lesser(at, 1),
+        Record::lesser(1, at),
+        Record::greater(at, 1),
+        Record::greater(1, at),
     ];
     for (kind, other) in [(BOOL, 0), (INT, 1)] {
         records.extend([
@@ -118,7 +122,7 @@ fn among(records: &[Record]) -> Vec<u8> {
 #[test]
 fn a_loop_through_every_operand() {
     let own = through_each_slot(4);
-    assert_eq!(own.len(), 28);
+    assert_eq!(own.len(), 32);
     for record in own {
         node_refused(&among(&[record]), 23, At(4));
     }

@@ -1,5 +1,5 @@
-//! The clauses of each operator as 01 lists them, literal by literal; and
-//! that they are those of the solution.
+//! The clauses of each operator as 01 and 02 list them, literal by literal;
+//! and that they are those of the solution.
 
 mod common;
 
@@ -29,6 +29,12 @@ fn rising(x: (u16, u8), y: (u16, u8), bound: i64) -> Want {
 fn falling(x: (u16, u8), y: (u16, u8), bound: i64) -> Want {
     Sum(vec![(x.0, x.1, -1), (y.0, y.1, 1)], bound)
 }
+
+/// [`rising`] or [`falling`].
+type Bound = fn((u16, u8), (u16, u8), i64) -> Want;
+
+/// An operator of two operands.
+type Operator = fn(u16, u16) -> Record;
 
 /// 0, 2 bools; 1, 3 ints; 4 the record, s; 5 true, the property; 6, 7 a bool
 /// and an int.
@@ -306,6 +312,61 @@ fn arrows() {
                 gives(Record::arrow_pre(INT, 1, 4), part, q, &ints((4, o - 1)));
             }
         }
+    }
+}
+
+/// 14: "{s ≤ a} {s ≤ b} {a ≤ s, b ≤ s}"; 15 is the mirror.
+#[test]
+fn lesser_and_greater() {
+    for (part, q, o) in offsets() {
+        let (x, y, s, z) = ((1, o), (3, o), (4, o), (7, o));
+        let mirrored: [(Operator, [Bound; 2]); 2] = [
+            (Record::lesser, [falling, rising]),
+            (Record::greater, [rising, falling]),
+        ];
+        for (operator, [outer, inner]) in mirrored {
+            let clauses = [
+                vec![outer(x, s, 0)],
+                vec![outer(y, s, 0)],
+                vec![inner(x, s, 0), inner(y, s, 0)],
+            ];
+            gives(operator(1, 3), part, q, &clauses);
+            let turned = [
+                vec![outer(y, s, 0)],
+                vec![outer(x, s, 0)],
+                vec![inner(y, s, 0), inner(x, s, 0)],
+            ];
+            gives(operator(3, 1), part, q, &turned);
+            // A higher stream stands after s in its constraint.
+            let higher = [
+                vec![outer(x, s, 0)],
+                vec![inner(s, z, 0)],
+                vec![inner(x, s, 0), outer(s, z, 0)],
+            ];
+            gives(operator(1, 7), part, q, &higher);
+        }
+    }
+}
+
+#[test]
+fn the_lesser_of_a_stream_and_itself() {
+    // Clauses 0 and 1 have the same content; clause 2 has its one twice.
+    for (operator, sign) in [(Record::lesser(1, 1), 1), (Record::greater(1, 1), -1)] {
+        let node = node(operator);
+        let mut certificate = constant_certificate(5, 1);
+        certificate.constraints = vec![
+            Constraint::new(&[(1, 0, -sign), (4, 0, sign)], 0),
+            Constraint::new(&[(1, 0, sign), (4, 0, -sign)], 0),
+        ];
+        let answer = |r, literals: &[u16]| {
+            let line = Line::equation(4, 0, r, literals);
+            trial(&node, &certificate, Step, line)
+        };
+        assert_eq!([0, 1].map(|r| answer(r, &[on(0)])), [Ok(()); 2]);
+        assert_eq!([0, 1].map(|r| answer(r, &[on(1)])), [Err(17); 2]);
+        assert_eq!(answer(2, &[on(1), on(1)]), Ok(()));
+        assert_eq!(answer(2, &[on(1)]), Err(17));
+        assert_eq!(answer(2, &[on(0), on(0)]), Err(17));
     }
 }
 

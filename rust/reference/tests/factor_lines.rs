@@ -16,7 +16,7 @@ const MAX_COEFFICIENT: i64 = 1_000_000_000;
 const MAX_BOUND: i64 = 100_000_000_000;
 
 /// 0 bool input; 1, 2 int inputs u, v; then one of each operator that gives
-/// constraints, twice where u and u give none; 14 true, the property.
+/// constraints, twice where u and u give none; 16 true, the property.
 fn node() -> NodeFile {
     let records = vec![
         Record::input(BOOL),
@@ -33,15 +33,17 @@ fn node() -> NodeFile {
         Record::at_most(1, 1),
         Record::equal(1, 1),
         Record::multiple(-1_000_000, 1),
+        Record::lesser(1, 2),
+        Record::greater(1, 2),
         Record::constant(BOOL, 1),
     ];
-    NodeFile::new(records, 14)
+    NodeFile::new(records, 16)
 }
 
 fn certificate(constraints: &[Constraint]) -> CertificateFile {
     CertificateFile {
         constraints: constraints.to_vec(),
-        ..constant_certificate(14, 2)
+        ..constant_certificate(16, 2)
     }
 }
 
@@ -144,6 +146,8 @@ fn clauses() -> Vec<Clause> {
         Clause::new(9, 0, not_b, sum(&[(1, -1), (9, 1)], 0)),
         Clause::new(9, 3, b, sum(&[(2, 1), (9, -1)], 0)),
         Clause::new(10, 0, None, before),
+        Clause::new(14, 0, None, sum(&[(1, -1), (14, 1)], 0)),
+        Clause::new(15, 1, None, sum(&[(2, 1), (15, -1)], 0)),
         nothing(),
     ]
 }
@@ -161,8 +165,8 @@ fn every_factor_up_to_the_largest() {
         }
         assert_eq!(clause.with(clause.defined.times(largest)), Ok(()));
     }
-    // Of 14 times 8 all but six are within the limits.
-    assert_eq!(met, 106);
+    // Of 16 times 8 all but six are within the limits.
+    assert_eq!(met, 122);
     assert_eq!(u_at_most_v().largest(), 1_000_000_000);
     assert_eq!(nothing().largest(), 100_000_000_000);
     // Both limits at once.
@@ -338,6 +342,23 @@ fn two_constraints_of_a_clause_have_a_factor_each() {
     let mixed = sum(&[(1, 2), (2, -3)], -2);
     let written = [mixed, more];
     assert_eq!(answer(&written, line(8, on(0), on(1))), Err(17));
+}
+
+#[test]
+fn so_have_those_of_the_lesser_and_the_greater() {
+    // 14: {u ≤ s, v ≤ s}; 15: {s ≤ u, s ≤ v}.
+    for (p, sign) in [(14, 1), (15, -1)] {
+        let [u, v] = [1, 2].map(|operand| sum(&[(operand, sign), (p, -sign)], 0));
+        let line = |c, d| Line::equation(p, Q.into(), 2, &[c, d]);
+        for (f, g) in [(1, 1), (1, 2), (3, 2), (1_000_000_000, 7)] {
+            let written = [u.times(f), v.times(g)];
+            assert_eq!(answer(&written, line(on(0), on(1))), Ok(()));
+            assert_eq!(answer(&written, line(on(1), on(0))), Err(17));
+            assert_eq!(answer(&written, line(on(0), on(0))), Err(17));
+        }
+        let mixed = sum(&[(1, 2 * sign), (p, -3 * sign)], 0);
+        assert_eq!(answer(&[mixed, v], line(on(0), on(1))), Err(17));
+    }
 }
 
 #[test]

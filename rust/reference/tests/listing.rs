@@ -137,6 +137,8 @@ fn every_operator() {
         (Record::choice(INT, 6, 4, 5), "int = if 6 then 4 else 5"),
         (Record::arrow(BOOL, 4, 5), "bool = 4 -> 5"),
         (Record::arrow_pre(BOOL, 4, 5), "bool = 4 -> pre 5"),
+        (Record::lesser(4, 5), "int = lesser of 4 and 5"),
+        (Record::greater(4, 5), "int = greater of 4 and 5"),
     ];
     for (record, text) in rows {
         assert_eq!(listed_record(record), format!("stream 0 {text}"));
@@ -146,7 +148,7 @@ fn every_operator() {
 #[test]
 fn wrong_records() {
     let wrong = Record {
-        operator: 14,
+        operator: 16,
         a: 1,
         b: 2,
         c: 3,
@@ -155,7 +157,7 @@ fn wrong_records() {
     };
     assert_eq!(
         listed_record(wrong),
-        "stream 0 bool = operator 14 of 1, 2, 3, constant 4"
+        "stream 0 bool = operator 16 of 1, 2, 3, constant 4"
     );
     let typed = Record {
         type_byte: 2,

@@ -88,6 +88,8 @@ fn every_operator_is_decoded() {
             Record::arrow_pre(BOOL, a, 4),
             Equation::ArrowPre { a: 0, b: 4 },
         ),
+        (Record::lesser(x, y), Equation::Lesser { a: 1, b: 3 }),
+        (Record::greater(y, x), Equation::Greater { a: 3, b: 1 }),
     ];
     for (record, equation) in cases {
         let file = with(record);
@@ -169,8 +171,12 @@ fn refusal_4_distance() {
 #[test]
 fn refusal_5_operator_and_type_byte() {
     let record = Record::input(BOOL);
-    for operator in [14, 15, 128, 255] {
+    for operator in [16, 17, 128, 255] {
         node_refused(&with(Record { operator, ..record }), 5, At(4));
+    }
+    // 02: "5 now says over 15". Of 14 and 15 it is 7 that speaks here.
+    for operator in [14, 15] {
+        node_refused(&with(Record { operator, ..record }), 7, At(4));
     }
     for type_byte in [2, 3, 255] {
         node_refused(
@@ -236,6 +242,8 @@ fn one_of_each() -> Vec<(Record, &'static str)> {
         (Record::choice(INT, 2, 1, 3), "k"),
         (Record::arrow(INT, 1, 3), "ck"),
         (Record::arrow_pre(INT, 1, 3), "ck"),
+        (Record::lesser(1, 3), "ck"),
+        (Record::greater(1, 3), "ck"),
     ]
 }
 
@@ -264,8 +272,8 @@ fn refusal_5_unused_fields() {
 #[test]
 fn refusal_5_names_the_lowest_record_before_6() {
     let file = two_bands_node().bytes();
-    let low = patched(&file, 16, &[14]);
-    node_refused(&patched(&low, 4 * 16, &[14]), 5, At(1));
+    let low = patched(&file, 16, &[16]);
+    node_refused(&patched(&low, 4 * 16, &[16]), 5, At(1));
     // Record 2 is against 6, record 5 against 5: 5 is taken over all first.
     let six = patched(&file, 2 * 16 + 2, &[6]);
     node_refused(&six, 6, At(2));
@@ -294,6 +302,10 @@ fn refusal_6_operands_below_n() {
         Record::arrow_pre(INT, 5, 1),
         Record::arrow_pre(INT, 1, 5),
         Record::arrow_pre(INT, 1, 65_535),
+        Record::lesser(5, 1),
+        Record::lesser(1, 5),
+        Record::greater(5, 1),
+        Record::greater(1, 5),
     ] {
         node_refused(&with(record), 6, At(4));
     }
@@ -347,6 +359,11 @@ fn refusal_7_types() {
         Record::arrow_pre(INT, 1, 0),
         Record::arrow_pre(BOOL, 1, 0),
         Record::arrow_pre(BOOL, 0, 1),
+        Record::lesser(0, 1),
+        Record::lesser(1, 0),
+        Record::greater(0, 1),
+        Record::greater(1, 0),
+        Record::greater(0, 2),
     ] {
         node_refused(&with(record), 7, At(4));
     }

@@ -144,6 +144,8 @@ fn int_operators() {
         R::at_most(0, 1),
         R::equal(0, 1),
         R::choice(INT, 2, 0, 1),
+        R::lesser(0, 1),
+        R::greater(0, 1),
     ];
     let mut record = begun(&NodeFile::new(records, 2));
     for (a, b) in [(0, 0), (5, -7), (-7, 5), (i64::MAX / 4, -1), (-2, -2)] {
@@ -162,8 +164,31 @@ fn int_operators() {
                 at_most,
                 equal,
                 chosen,
+                if a < b { a } else { b },
+                if a < b { b } else { a },
             ];
-            assert_eq!(values(&mut record, &[a, b, c], 10), expected);
+            assert_eq!(values(&mut record, &[a, b, c], 12), expected);
+        }
+    }
+}
+
+#[test]
+fn the_lesser_and_the_greater_always_fit() {
+    let records = vec![
+        R::input(INT),
+        R::input(INT),
+        R::lesser(0, 1),
+        R::greater(0, 1),
+        R::greater(0, 0),
+        R::input(BOOL),
+    ];
+    let mut record = begun(&NodeFile::new(records, 5));
+    let rising = [i64::MIN, i64::MIN + 1, -1, 0, 1, i64::MAX - 1, i64::MAX];
+    for (i, a) in rising.into_iter().enumerate() {
+        for (j, b) in rising.into_iter().enumerate() {
+            let [lesser, greater] = [rising[i.min(j)], rising[i.max(j)]];
+            let expected = [a, b, lesser, greater, a, 0];
+            assert_eq!(values(&mut record, &[a, b, 0], 6), expected);
         }
     }
 }
@@ -201,7 +226,7 @@ fn refusal_30_no_node() {
         (trailer, 0),
         (trailer + 4, 0),
         (trailer + 8, 0),
-        (0, 14),
+        (0, 16),
         (2 * 16 + 2, 6),
         (2 * 16 + 2, 2),
         (3 * 16 + 1, 1),

@@ -90,7 +90,7 @@ fn attempt(random: &mut Random, types: &[u8], own: usize, own_type: u8) -> Optio
     let all = streams(types, types.len(), own_type);
     let operators: &[u8] = match own_type {
         BOOL => &[0, 1, 2, 3, 4, 5, 9, 10, 11, 12, 13, 13],
-        _ => &[0, 1, 6, 7, 8, 11, 12, 13, 13],
+        _ => &[0, 1, 6, 7, 8, 11, 12, 13, 13, 14, 15],
     };
     let mut from = |values: &[u16]| random.pick(values);
     let (a, b, c) = (from(same), from(same), from(&bools));
@@ -110,6 +110,8 @@ fn attempt(random: &mut Random, types: &[u8], own: usize, own_type: u8) -> Optio
         10 => Record::equal(x?, y?),
         11 => Record::choice(own_type, c?, a?, b?),
         12 => Record::arrow(own_type, a?, b?),
+        14 => Record::lesser(a?, b?),
+        15 => Record::greater(a?, b?),
         _ => Record::arrow_pre(own_type, a?, any?),
     };
     Some(record)

@@ -9,7 +9,7 @@ impl Record {
     pub fn operands(&self) -> Vec<u16> {
         let count = match self.operator {
             2 | 8 => 1,
-            3..=7 | 9 | 10 | 12 | 13 => 2,
+            3..=7 | 9 | 10 | 12..=15 => 2,
             11 => 3,
             _ => 0,
         };

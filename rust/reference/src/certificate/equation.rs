@@ -136,10 +136,11 @@ fn bool_clause(equation: Equation, part: Part, stream: u8, offset: u8, r: u16) -
     }
 }
 
-/// The clauses of an int stream s: operators 1, 6, 7, 8, 11, 12 and 13.
+/// The clauses of an int stream s: operators 1, 6, 7, 8 and 11 to 15.
 fn int_clause(equation: Equation, part: Part, stream: u8, offset: u8, r: u16) -> Option<Clause> {
     let number = |stream| at(stream, offset);
-    let s = Side::variable(number(stream));
+    let variable = |stream| Side::variable(number(stream));
+    let s = variable(stream);
     match equation {
         Equation::Constant { k } => equality(s, Side::constant(k), r),
         Equation::Sum { a, b } => equality(s, Side::sum(number(a), number(b)), r),
@@ -147,9 +148,10 @@ fn int_clause(equation: Equation, part: Part, stream: u8, offset: u8, r: u16) ->
         Equation::Multiple { k, a } => equality(s, Side::multiple(k, number(a)), r),
         Equation::Choice { a, b, c } => {
             let c = Literal::stream(c, offset);
-            let [a, b] = [a, b].map(|stream| Side::variable(number(stream)));
-            choice(s, c, a, b, r)
+            choice(s, c, variable(a), variable(b), r)
         }
+        Equation::Lesser { a, b } => lesser(s, variable(a), variable(b), r),
+        Equation::Greater { a, b } => greater(s, variable(a), variable(b), r),
         _ => {
             let (stream, offset) = chosen(equation, part, offset)?;
             equality(s, Side::variable(at(stream, offset)), r)
@@ -173,6 +175,26 @@ fn choice(s: Side, c: Literal, a: Side, b: Side, r: u16) -> Option<Clause> {
         1 => two(!c, a.at_most(s)),
         2 => two(c, s.at_most(b)),
         3 => two(c, b.at_most(s)),
+        _ => None,
+    }
+}
+
+/// 14: {s ≤ a} {s ≤ b} {a ≤ s, b ≤ s}.
+fn lesser(s: Side, a: Side, b: Side, r: u16) -> Option<Clause> {
+    match r {
+        0 => one(s.at_most(a)),
+        1 => one(s.at_most(b)),
+        2 => two(a.at_most(s), b.at_most(s)),
+        _ => None,
+    }
+}
+
+/// 15, "the mirror": {a ≤ s} {b ≤ s} {s ≤ a, s ≤ b}.
+fn greater(s: Side, a: Side, b: Side, r: u16) -> Option<Clause> {
+    match r {
+        0 => one(a.at_most(s)),
+        1 => one(b.at_most(s)),
+        2 => two(s.at_most(a), s.at_most(b)),
         _ => None,
     }
 }

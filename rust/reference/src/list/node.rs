@@ -67,8 +67,8 @@ fn stream(record: &Record) -> String {
     }
 }
 
-/// The equation in the words of 01's table, and the record that says this
-/// and no more, its type aside.
+/// The equation in the words of 01's table, or 02's of 14 and 15, and the
+/// record that says this and no more, its type aside.
 fn equation(record: &Record) -> (String, Record) {
     let Record {
         operator,
@@ -100,6 +100,8 @@ fn equation(record: &Record) -> (String, Record) {
             format!("{a} -> pre {b}"),
             Record::arrow_pre(type_byte, a, b),
         ),
+        14 => (format!("lesser of {a} and {b}"), Record::lesser(a, b)),
+        15 => (format!("greater of {a} and {b}"), Record::greater(a, b)),
         _ => (
             format!("operator {operator} of {a}, {b}, {c}, constant {k}"),
             *record,

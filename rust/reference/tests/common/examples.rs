@@ -88,6 +88,36 @@ pub fn twins() -> NodeFile {
     NodeFile::new(records, 7)
 }
 
+/// Operators 14 and 15: the greater of an input and 0, and of this and ten the
+/// lesser, is at least 0 and at most ten.
+pub fn brought_inside() -> NodeFile {
+    let records = vec![
+        Record::input(INT),
+        Record::constant(INT, 0),
+        Record::constant(INT, 10),
+        Record::greater(0, 1),
+        Record::lesser(3, 2),
+        Record::at_most(1, 4),
+        Record::at_most(4, 2),
+        Record::and(5, 6),
+    ];
+    NodeFile::new(records, 7)
+}
+
+/// Operator 14: a counter that stays at ten, as the lesser of itself and ten.
+pub fn ten_is_the_lesser() -> NodeFile {
+    let records = vec![
+        Record::constant(INT, 0),
+        Record::constant(INT, 1),
+        Record::constant(INT, 10),
+        Record::arrow_pre(INT, 0, 5),
+        Record::sum(3, 1),
+        Record::lesser(4, 2),
+        Record::at_most(3, 2),
+    ];
+    NodeFile::new(records, 6)
+}
+
 /// A ring of delays, false to begin with; that the first is false holds by
 /// induction of just this depth.
 pub fn ring(depth: u16) -> NodeFile {
@@ -172,6 +202,8 @@ pub fn provable() -> Vec<(NodeFile, u8)> {
         (first_only(), 1),
         (five_then_nothing(), 1),
         (twins(), 1),
+        (brought_inside(), 1),
+        (ten_is_the_lesser(), 1),
         (nothing_doubled(), 2),
         (first_only(), 2),
         (twins(), 2),
