@@ -310,6 +310,8 @@ def every_clause(proof, o, first):
              [s(12), opp(s(13)), s(5)], [s(12), s(13), opp(s(5))]],
         14: [[opp(s(11)), *c] for c in same(n(14), n(8))] + [[s(11), *c] for c in same(n(14), n(9))],
         19: [[at_most({n(19): 1, n(18): -1, n(1): -1}, 0)], [at_most({n(18): 1, n(1): 1, n(19): -1}, 0)]],
+        20: [[below(n(20), n(1), 0)], [below(n(20), n(3), 0)], [below(n(1), n(20), 0), below(n(3), n(20), 0)]],
+        21: [[below(n(19), n(21), 0)], [below(n(20), n(21), 0)], [below(n(21), n(19), 0), below(n(21), n(20), 0)]],
     }
     if first:
         clauses |= {15: as_bool(15, s(2)), 16: same(n(16), n(3)), 17: as_bool(17, s(2)), 18: same(n(18), n(3))}

@@ -24,6 +24,8 @@ RECORDS = {
     "zerofold": rec(8, INT, 2),
     "at-most": rec(9, BOOL, 2, 3), "at-least": rec(9, BOOL, 3, 2), "equal": rec(10, BOOL, 2, 3), "if": rec(11, INT, 2, 3, 1),
     "at-most-itself": rec(9, BOOL, 2, 2), "equal-to-itself": rec(10, BOOL, 2, 2),
+    "lesser": rec(14, INT, 2, 3), "greater": rec(15, INT, 2, 3),
+    "lesser-of-one": rec(14, INT, 2, 2), "greater-of-one": rec(15, INT, 2, 2),
 }
 STREAMS = {name: i for i, name in enumerate(RECORDS)}
 NODE = node(list(RECORDS.values()), 0)
@@ -44,6 +46,14 @@ def both(s, right, bound=0):
     return [(({s: 1} | {x: -c for x, c in right.items()}, bound),), (({s: -1} | right, -bound),)]
 
 
+def lesser(s, a, b):
+    return [(most(s, a),), (most(s, b),), (most(a, s), most(b, s))]
+
+
+def greater(s, a, b):
+    return [(most(a, s),), (most(b, s),), (most(s, a), most(s, b))]
+
+
 # The clauses as the rules list them. A literal is a bool stream, "!" before it where negated, or a constraint: coefficients by
 # stream, or by stream and how many offsets lower, and a bound.
 CLAUSES = {
@@ -62,6 +72,8 @@ CLAUSES = {
     # equal variables are summed and zeros dropped
     "at-most-itself": [("!at-most-itself", ({}, 0)), ("at-most-itself", NEVER)],
     "equal-to-itself": [("!equal-to-itself", ({}, 0)), ("!equal-to-itself", ({}, 0)), ("equal-to-itself", NEVER, NEVER)],
+    "lesser": lesser("lesser", "a", "b"), "greater": greater("greater", "a", "b"),
+    "lesser-of-one": lesser("lesser-of-one", "a", "a"), "greater-of-one": greater("greater-of-one", "a", "a"),
 }
 AT_INSTANT_0 = {s: both(s, {"a": 1}) for s in ("arrow", "pre", "pre-higher", "pre-itself")}
 LATER = {"arrow": both("arrow", {"b": 1}), "pre": both("pre", {("b", 1): 1}), "pre-higher": both("pre-higher", {("sum", 1): 1}),
@@ -76,6 +88,7 @@ FACTORS = {
     "thousandfold": (1, 2, 999_999, 1_000_000), "greatest-multiple": (1,), "least-multiple": (1,),
     "zero": UNIT, "nothing": UNIT, "zerofold": UNIT, "at-most": UNIT, "at-least": UNIT, "equal": UNIT, "if": UNIT,
     "arrow": UNIT, "pre": UNIT, "pre-higher": UNIT, "pre-itself": UNIT,
+    "lesser": UNIT, "greater": UNIT, "lesser-of-one": UNIT, "greater-of-one": UNIT,
     # "0 at most 0" times anything is itself
     "at-most-itself": (1, 2, 1_000_000, BOUND), "equal-to-itself": (1, 2, 1_000_000, BOUND),
 }
@@ -143,6 +156,8 @@ def right():
         "if": (of_streams("if"), 19), "arrow": (of_streams("arrow"), 11), "pre": (of_streams("pre"), 11),
         "pre-of-others": (of_streams("pre-higher", "pre-itself"), 19),
         "at-most-itself": (of_streams("at-most-itself"), 11), "equal-to-itself": (of_streams("equal-to-itself"), 15),
+        "lesser": (of_streams("lesser"), 15), "greater": (of_streams("greater"), 15),
+        "of-one-operand": (of_streams("lesser-of-one", "greater-of-one"), 27),
         # factors past 32 bits, of which one is 0 in 32, and one below the greatest
         "past-32-bits": (of_streams("at-most-itself", factors=(1 << 31, 1 << 32, (1 << 32) + 1, BOUND - 1)), 11),
     }
@@ -275,6 +290,7 @@ def past_limits():
         "sum": of("sum", COEFFICIENT + 1), "triple": of("triple", 333_333_334), "least-multiple": of("least-multiple", 2),
         "greatest": of("greatest", 101), "at-most": of("at-most", COEFFICIENT + 1, 1),
         "at-most-itself": of("at-most-itself", BOUND + 1, 1),
+        "lesser": of("lesser", COEFFICIENT + 1), "greater": of("greater", COEFFICIENT + 1, 1),
     }
 
 

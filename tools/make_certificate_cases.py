@@ -10,7 +10,9 @@ beside it. The data and stdout of crates/check_certificate are written too.
 import cut_cases
 import example_proofs
 import factor_cases
+import flight_proofs
 import half_minute_proofs
+import lesser_cases
 import order_proofs
 import parity_proofs
 from booking_proofs import LATE, base_for_step, start_only
@@ -18,8 +20,8 @@ from certificate_files import (BOUND, COEFFICIENT, MULTIPLIER, Certificate, Line
                                trailer)
 from node_files import BOOL, INPUT, INT, PROPERTY_FIRST, TWO_BANDS, node, rec, reordered_node, replaced, write_data, write_lines
 
-NODES = {**example_proofs.NODES, **parity_proofs.NODES, **half_minute_proofs.NODES, **order_proofs.NODES,
-         "factors": factor_cases.NODE}
+NODES = {**example_proofs.NODES, **parity_proofs.NODES, **half_minute_proofs.NODES, **order_proofs.NODES, **flight_proofs.NODES,
+         **lesser_cases.NODES, "factors": factor_cases.NODE}
 CASES = []
 # Of depth 1. Base lines 0 to 11 and step lines 12 to 23; no constraints.
 BANDS = example_proofs.two_bands()
@@ -30,9 +32,17 @@ COUNTER = example_proofs.counter(1)
 DELAYED = example_proofs.delayed()
 # "0 at most 0"
 FILLER = constraint([], 0)
+# Proofs by clauses of lesser and greater.
+LESSER_PROOFS = (
+    ("lesser-at-most", lesser_cases.lesser_at_most(), 1, 9, 9),
+    ("lesser-and-greater", lesser_cases.lesser_and_greater(), 1, 35, 35),
+    ("lesser-of-one", lesser_cases.lesser_of_one(), 1, 15, 15),
+    ("absolute-by-greater", lesser_cases.absolute_by_greater(), 1, 13, 13),
+    ("least-so-far", lesser_cases.least_so_far(), 1, 9, 15), ("flight-list", flight_proofs.flight_list(), 1, 29, 37),
+)
 # The two bands with the property first, and every operator in disorder.
 FIRST = (5, 0, 1, 2, 3, 4)
-SHUFFLED = (13, 4, 19, 1, 16, 10, 7, 18, 15, 2, 9, 6, 12, 0, 17, 3, 14, 5, 11, 8)
+SHUFFLED = (13, 4, 19, 1, 16, 10, 7, 18, 15, 2, 9, 6, 12, 0, 17, 3, 14, 5, 11, 8, 21, 20)
 
 
 def case(name, node_name, data, says):
@@ -76,8 +86,8 @@ def whole_proofs():
     accepted("pairs-of-minutes-without-cuts", "pairs-of-minutes", without_cuts, 1, 34, 34)
     accepted("half-minutes", "half-minutes", half_minute_proofs.half_minutes(), 1, 28, 34)
     accepted("half-minutes-as-defined", "half-minutes", half_minute_proofs.as_defined(), 1, 28, 34)
-    # 44 clauses an offset; 36 at step offset 0
-    accepted("all-operators", "all-operators", example_proofs.all_operators(), 2, 92, 128)
+    # 50 clauses an offset; 42 at step offset 0
+    accepted("all-operators", "all-operators", example_proofs.all_operators(), 2, 104, 146)
 
 
 def most_lines():
@@ -148,7 +158,8 @@ def of_the_node():
     NODES["version-2"] = node(TWO_BANDS, 5, version=2)
     NODES["property-is-n"] = node(TWO_BANDS, 6)
     NODES["distance-one-less"] = node(TWO_BANDS, 5, distance=111)
-    NODES["operator-14"] = node(replaced(TWO_BANDS, 3, rec(14, BOOL)), 5)
+    NODES["operator-16"] = node(replaced(TWO_BANDS, 3, rec(16, BOOL)), 5)
+    NODES["lesser-of-bools"] = node(replaced(TWO_BANDS, 3, rec(14, BOOL)), 5)
     NODES["operand-is-n"] = node(replaced(TWO_BANDS, 4, rec(3, BOOL, 6, 3)), 5)
     NODES["reads-itself"] = node(replaced(TWO_BANDS, 4, rec(3, BOOL, 4, 3)), 5)
     # 3 and 4 are a loop, for which 0 waits
@@ -159,7 +170,7 @@ def of_the_node():
     refused("2-node-version-2", "version-2", BANDS.file(version=2), 2, "file")
     refused("3-node-property-is-n", "property-is-n", BANDS.file(depth=0), 3, "file")
     refused("4-node-distance", "distance-one-less", BANDS.file(distance=0), 4, "file")
-    refused("5-node-operator-14", "operator-14", BANDS.more(constraints=[constraint([], 0, count=9)]), 5, "record 3")
+    refused("5-node-operator-16", "operator-16", BANDS.more(constraints=[constraint([], 0, count=9)]), 5, "record 3")
     refused("6-node-operand-is-n", "operand-is-n", BANDS.changed(0, kind=0), 6, "record 4")
     refused("23-node-reads-itself", "reads-itself", BANDS.changed(0, kind=0), 23, "record 4")
     refused("23-node-reads-itself-before-11", "reads-itself", b"", 23, "record 4")
@@ -167,6 +178,7 @@ def of_the_node():
     refused("23-node-waits-before-12", "waits", BANDS.file(version=2), 23, "record 0")
     refused("23-node-waits", "waits", BANDS.carried(FIRST), 23, "record 0")
     refused("7-node-typed-int", "typed-int", BANDS.changed(2, p=2), 7, "record 2")
+    refused("7-node-lesser-of-bools", "lesser-of-bools", BANDS, 7, "record 3")
     refused("8-node-property-int", "property-int", b"\0" * 15, 8, "record 0")
 
 
@@ -403,7 +415,7 @@ def whole_proofs_multiplied():
     # with no line of kind 4: every clause at every offset; the greatest for a coefficient of 3
     every = example_proofs.all_operators()
     for name, factors in (("each-another", range(1, 257)), ("333333333", (333_333_333,))):
-        accepted(f"factors-all-operators-{name}", "all-operators", factor_cases.multiplied(every, factors), 2, 92, 128)
+        accepted(f"factors-all-operators-{name}", "all-operators", factor_cases.multiplied(every, factors), 2, 104, 146)
     # all alike, so that multipliers of 1 still fit; and one alone, where those of line 3 don't
     accepted("factors-counter-2", "counter", factor_cases.multiplied(COUNTER, (2,), 2), 1, 7, 21)
     alone = COUNTER.with_constraint(0, factor_cases.scaled(COUNTER.constraints[0], 2))
@@ -446,6 +458,37 @@ def of_factors():
         factors(f"cut-to-{factor}-r-{r}", factor_cases.by_cut(factor, r), 22, "line 7")
 
 
+def of_lessers():
+    """Operators 14 and 15. The lines are one more after the proof of the node of factors, in the step."""
+    for name, proof, *says in LESSER_PROOFS:
+        accepted(name, name, proof, *says)
+        accepted(f"factors-{name}", name, factor_cases.multiplied(proof, (2, 3, 12, 1, 4, 6), 12), *says)
+    accepted("lessers-at-every-offset", "factors", lesser_cases.everywhere(), 2, 53, 75)
+    for name, line in lesser_cases.wrong().items():
+        refused(f"17-{name}", "factors", factor_cases.after(1, line), 17, "line 6")
+    refused("17-lesser-at-offset-k-in-base", "factors", lesser_cases.in_base_at_depth(), 17, "line 0")
+    refused("17-greater-past-k-in-step", "factors", lesser_cases.past_depth(), 17, "line 6")
+    for name, (node_name, proof, line) in lesser_cases.forged().items():
+        refused(f"false-turn-lesser-{name}", node_name, proof, 17, f"line {line}")
+    # with both literals of clause 2, of which nothing refutes the second
+    for name, prove, number, place in (("first-case-alone", lesser_cases.first_case, 21, "base"),
+                                       ("both-cases", lesser_cases.both_cases, 20, "line 7")):
+        refused(f"false-turn-lesser-{name}", "at-most-lesser", example_proofs.at_one_offset(prove), number, place)
+    # the two exchanged: 2 is the greater, of which line 5 says the lesser's clause 2
+    exchanged = (0, 1, 3, 2, 4, 5, 6)
+    carried("lesser-and-greater-exchanged", "lesser-and-greater", lesser_cases.lesser_and_greater(), exchanged, 1, 35, 35)
+    refused("17-greater-for-lesser", "lesser-and-greater-exchanged", lesser_cases.lesser_and_greater(), 17, "line 5")
+
+
+def lessers_in_another_order():
+    for name, proof, *says in LESSER_PROOFS:
+        carried(f"{name}-reversed", name, proof, reversed_order(name), *says)
+    order = reversed_order("factors")
+    accepted("lessers-at-every-offset-reversed", "factors-reversed", lesser_cases.everywhere().carried(order), 2, 53, 75)
+    for name, line in lesser_cases.wrong().items():
+        refused(f"17-reversed-{name}", "factors-reversed", factor_cases.after(1, line).carried(order), 17, "line 6")
+
+
 def reversed_order(node_name):
     return range(len(NODES[node_name]) // 16 - 2, -1, -1)
 
@@ -462,9 +505,9 @@ def in_another_order():
     carried("counter-property-first", "counter", COUNTER, (4, 0, 1, 2, 3), 1, 7, 21)
     accepted("property-first", "property-first", order_proofs.property_first(), 2, 23, 29)
     every = example_proofs.all_operators()
-    carried("all-operators-shuffled", "all-operators", every, SHUFFLED, 2, 92, 128)
+    carried("all-operators-shuffled", "all-operators", every, SHUFFLED, 2, 104, 146)
     multiplied = factor_cases.multiplied(every, range(1, 257))
-    accepted("factors-all-operators-shuffled", "all-operators-shuffled", multiplied.carried(SHUFFLED), 2, 92, 128)
+    accepted("factors-all-operators-shuffled", "all-operators-shuffled", multiplied.carried(SHUFFLED), 2, 104, 146)
     for name, proof, *says in (
             ("two-bands", BANDS, 1, 12, 12), ("counter", example_proofs.counter(8), 8, 126, 21),
             ("countdown", example_proofs.countdown(2), 2, 26, 23), ("grant", example_proofs.grant(), 1, 22, 32),
@@ -473,7 +516,7 @@ def in_another_order():
             ("successor", example_proofs.successor(), 1, 13, 13), ("absolute", example_proofs.absolute(), 1, 20, 20),
             ("itself", example_proofs.itself(), 1, 5, 5), ("mirror", example_proofs.mirror(), 1, 6, 6),
             ("pairs-of-minutes", parity_proofs.pairs_of_minutes(), 1, 34, 34),
-            ("half-minutes", half_minute_proofs.half_minutes(), 1, 28, 34), ("all-operators", every, 2, 92, 128)):
+            ("half-minutes", half_minute_proofs.half_minutes(), 1, 28, 34), ("all-operators", every, 2, 104, 146)):
         carried(f"{name}-reversed", name, proof, reversed_order(name), *says)
 
 
@@ -547,8 +590,9 @@ def both_signs_struck():
 
 
 def false_turns():
-    """The properties of the late nodes, of the wish, of the forged pairs and of the forged minutes fail. The counter's holds, but
-    not by lines that drop the -1. The equations of the forged loop have no solution."""
+    """The properties of the late nodes, of the wish, of the forged pairs and minutes, of the forged flight list and of the one that
+    a greater holds fail. The counter's holds, but not by lines that drop the -1. The equations of the forged loop have no
+    solution."""
     # 3 = true -> pre 2 fails at instant 2, where 2 = true -> pre 1 or true -> 1, an input
     NODES["late"] = node(LATE, 3)
     NODES["late-arrow"] = node(replaced(LATE, 2, rec(12, BOOL, 0, 1)), 3)
@@ -568,12 +612,19 @@ def false_turns():
     # and with the bound that it should have
     refused("false-turn-bound-scaled", "forged-minutes", half_minute_proofs.half_minutes(60), 20, "line 9")
     refused("false-turn-loop", "forged-loop", order_proofs.forged(), 23, "record 2")
+    refused("false-turn-half-a-clause", "forged-flight-list", flight_proofs.forged(), 17, "line 4")
+    # with the whole clause, which has 2 in place of 1; and with what flight-list says
+    refused("false-turn-whole-clause", "forged-flight-list", flight_proofs.flight_list(flight_proofs.by_cases_of(2)), 20, "line 7")
+    refused("false-turn-another-clause", "forged-flight-list", flight_proofs.flight_list(), 17, "line 4")
+    # 8 is the greater of 7 and 3, where line 5 says that it is at most 3
+    NODES["held-by-greater"] = node(replaced(flight_proofs.FLIGHT_LIST, 8, rec(15, INT, 7, 3)), 13)
+    refused("false-turn-held-by-greater", "held-by-greater", flight_proofs.flight_list(), 17, "line 5")
 
 
 def main():
     for cases in (whole_proofs, allowed, of_the_node, of_the_file, of_constraints, of_any_kind, of_equations, of_properties,
                   of_joins, of_arithmetic, of_cuts, whole_proofs_multiplied, of_factors, in_another_order, of_another_order,
-                  factors_reversed, of_parts, false_turns):
+                  factors_reversed, of_lessers, lessers_in_another_order, of_parts, false_turns):
         cases()
     nodes = {f"{name}.node": data for name, data in NODES.items()}
     write_data("check_pairs", {**nodes, **{name: data for _, name, data, _ in CASES}})

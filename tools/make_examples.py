@@ -1,9 +1,10 @@
 #!/usr/bin/env python3
-"""Writes the folders of examples: node.bin, cert.bin, the verdict line and a page on each, and a page on all.
+"""Writes the folders of examples: node.bin, cert.bin, the verdict line and a page on each, and a page on all; of those for the
+flight list also table.bin and the line of the check of ranges.
 
     python3 tools/make_examples.py
 
-The verdict lines are written down here from the published rules and not computed by any checker.
+The lines are written down here from the published rules and not computed by any checker.
 """
 import struct
 import textwrap
@@ -11,24 +12,26 @@ from dataclasses import dataclass
 
 import booking_proofs
 import example_proofs
+import flight_proofs
 import half_minute_proofs
 import order_proofs
 import parity_proofs
 from certificate_files import Certificate
-from node_files import ROOT, node
+from node_files import ROOT, node, table
 
 NODES = {**example_proofs.NODES, **booking_proofs.NODES, **parity_proofs.NODES, **half_minute_proofs.NODES, **order_proofs.NODES,
-         "forged": node(booking_proofs.LATE, 3)}
+         **flight_proofs.NODES, "forged": node(booking_proofs.LATE, 3)}
 TYPES = ("bool", "int")
 # by operator
 EQUATIONS = ("input", "{k}", "not {a}", "{a} and {b}", "{a} or {b}", "{a} same as {b}", "{a} + {b}", "{a} - {b}", "{k} * {a}",
-             "{a} at most {b}", "{a} equal to {b}", "if {c} then {a} else {b}", "{a} -> {b}", "{a} -> pre {b}")
+             "{a} at most {b}", "{a} equal to {b}", "if {c} then {a} else {b}", "{a} -> {b}", "{a} -> pre {b}",
+             "lesser of {a} and {b}", "greater of {a} and {b}")
 
 
 @dataclass(frozen=True)
 class Example:
     """Streams are names and what they are, in record order. The texts are those of the folder's page. Rows on lines are those of
-    the base, those of the step and what they say."""
+    the base, those of the step and what they say. Ranges are those of the table, where there is one; `ranges_say` is on them."""
     name: str
     title: str
     books: str
@@ -40,6 +43,9 @@ class Example:
     verdict: str
     lines: tuple = ()
     aside: str = ""
+    ranges: tuple = ()
+    ranges_say: str = ""
+    listed: str = ""
 
     def equations(self):
         """The rows of a table, one a stream, from the records of the node file; a stream is called by its name."""
@@ -48,7 +54,12 @@ class Example:
         for i, ((op, kind, a, b, c, k, _), (name, meaning)) in enumerate(zip(records, self.streams, strict=True)):
             constant = ("false", "true")[k] if (op, kind) == (1, 0) else k
             equation = EQUATIONS[op].format(a=names[a], b=names[b], c=names[c], k=constant)
-            yield f"| {i} | {TYPES[kind]} | `{name}` = {equation} | {meaning} |"
+            ends = "{} to {} | ".format(*self.ranges[i]) if self.ranges else ""
+            yield f"| {i} | {TYPES[kind]} | `{name}` = {equation} | {ends}{meaning} |"
+
+    def heading(self):
+        columns = ["Stream", "Type", "Equation", *["Range"] * bool(self.ranges), "What it is"]
+        return [f"| {' | '.join(columns)} |", "|---" * len(columns) + "|"]
 
     def listing(self):
         """The table of lines, where there is one."""
@@ -56,10 +67,10 @@ class Example:
         return "\n".join(["| Base | Step | What the lines say |", "|---|---|---|", *rows]) if rows else ""
 
     def page(self):
-        table = ["| Stream | Type | Equation | What it is |", "|---|---|---|---|", *self.equations()]
-        parts = [f"# {self.title}", wrapped(self.books), "\n".join(table), wrapped(f"Property: {self.prop}"),
-                 wrapped(f"Depth: {self.depth}"), wrapped(f"Certificate: {self.argument}"), self.listing(), wrapped(self.aside),
-                 f"Verdict: `{self.verdict}`"]
+        parts = [f"# {self.title}", wrapped(self.books), "\n".join([*self.heading(), *self.equations()]),
+                 wrapped(f"Property: {self.prop}"), wrapped(f"Depth: {self.depth}"), wrapped(f"Certificate: {self.argument}"),
+                 self.listing(), wrapped(self.aside), wrapped(f"Table: {self.ranges_say}") if self.ranges else "",
+                 f"Listed: `{self.listed}`" if self.ranges else "", f"Verdict: `{self.verdict}`"]
         return "\n\n".join(part for part in parts if part) + "\n"
 
 
@@ -82,6 +93,12 @@ HALVES = (("asked", "minutes asked for"), ("zero", "a constant"), ("slots", "the
           ("room", "their minutes, 20 each"), ("before", "minutes booked up to one instant before"),
           ("sum", "these and those asked for"), ("fits", "there is room for them"), ("booked", "minutes booked"),
           ("halves", "their half minutes"), ("pass", "how many half minutes a pass has"), ("fine", "the property"))
+FLIGHT = (("asked", "minutes asked for"), ("none", "a constant"), ("slot", "the most minutes that can be had at one instant"),
+          ("pass", "the minutes of a pass"), ("wanted", "minutes asked for, or 0 if these are negative"),
+          ("minutes", "what of them can be had"), ("before", "minutes booked up to one instant before"),
+          ("sum", "these and `minutes`"), ("booked", "minutes booked"), ("had", "minutes free one instant before"),
+          ("rest", "these less `minutes`"), ("free", "minutes free"), ("total", "minutes booked and free"),
+          ("fine", "the property"))
 EXAMPLES = (
     Example(
         "two-bands", "Two bands, one dish",
@@ -270,6 +287,44 @@ EXAMPLES = (
         in this order and gives them by record, as it takes its inputs. Where `gives up` is 0 at instant 0, the values are 1, 40,
         30, 40, 45, 40, 30, 0."""),
     Example(
+        "flight-list", "Counters for the flight list",
+        """A crew on the ground asks for minutes of a pass, any number at each instant, and is given them from 0 to 30 at once. The
+        minutes booked count up and are held at 90, those of a pass; the minutes free count down from 90 and are held at 0. What
+        is on the crews' flight list may never stop for the size of a number, so the node comes with a table of ranges.""",
+        FLIGHT,
+        "the minutes booked and those free are together at most 90: no minute is both.",
+        """1. Both counters move by the same `minutes`, or one of them is held; that they were together at most 90 one instant
+        before is all that is needed now.""",
+        """say `total` is over `pass`. Clause 2 of a greater says that `free` is at most `rest` or at most `none`. In the second
+        case `booked`, at most `pass` by clause 1 of a lesser, and `free`, at most 0, are together at most `pass`. In the first,
+        `free` is at most `had` less `minutes` and `booked`, by clause 0 of the lesser, at most `before` plus `minutes`: together
+        at most `before` plus `had`. That is 0 and 90 at instant 0, and later the `booked` and the `free` of one instant before,
+        together at most 90 by the property. How the minutes asked for are held doesn't matter here.""",
+        flight_proofs.flight_list(), "accepted depth 1 base 29 step 37",
+        (("0 to 2", "29 to 31", "the property fails: `pass` - `total` is at most -1"),
+         ("3", "32", "equation: `total` is at most `booked` + `free`"),
+         ("4", "33", "clause 2 of a greater: `free` is at most `rest`, or `free` is at most `none`"),
+         ("5", "34", "clause 1 of a lesser: `booked` is at most `pass`"),
+         ("6", "35", "equation: `none` is at most 0"),
+         ("7 to 11", "36 to 40", "arithmetic: lines 2, 3, 5 and 6 (step: 31, 32, 34 and 35) don't hold together with \"`free` is "
+          "at most `none`\"; joins with them: that doesn't hold"),
+         ("12", "41", "join: `free` is at most `rest`"),
+         ("13", "42", "equation: `rest` is at most `had` - `minutes`"),
+         ("14", "43", "clause 0 of a lesser: `booked` is at most `sum`"),
+         ("15", "44", "equation: `sum` is at most `before` + `minutes`"),
+         ("16 to 18", "45 to 52", "equations: `before` is at most `none`, and `none` at most 0; `had` is at most `pass` (step: "
+          "`before` is at most `booked` and `had` at most `free` of one instant before, these together at most `total`, that at "
+          "most `pass` by the property, `pass` at most 90, and now at least 90)"),
+         ("19 to 28", "53 to 65", "arithmetic and joins: `{ }`")),
+        "", tuple(flight_proofs.TABLES["flight-list"]),
+        """least and greatest of each stream, in record order. `asked` has the widest range that a table may have, and neither
+        `wanted` nor `minutes` gets more by it, for greater and lesser give one of their operands. The range of each other stream
+        is just what its operator gives where each operand is by itself anywhere in its range. So `total` is up to 180 here, 90
+        and 90, although the certificate shows that it is at most 90: a table is reckoned stream by stream. `before` and `had`
+        have room for what they are at instant 0 and for what they take over later, which closes the circle: no instant is refused
+        with 34 as long as `asked` stays in its range.""",
+        "listed"),
+    Example(
         "forged", "A forged certificate",
         """A licence office says at each instant whether a licence is valid, and its word takes two instants to arrive at the
         booking desk. Until then the desk takes the licence to be valid.""",
@@ -330,12 +385,32 @@ EXAMPLES = (
         record never placed is 2, and the node is refused with 23 before its certificate is looked at. With the property as
         record 0 the verdict would be `refused 23 record 0`: it is in no loop and only waits for one. With the `pre` there is an
         order, and the property fails where both stations ask at instant 0."""),
+    Example(
+        "forged-flight-list", "A forged clause",
+        """The node of flight-list, but its author wants to see a slot free at all times: `free` is held at `slot`, 30, and not at
+        `none`. The minutes booked are held at 90 as before.""",
+        FLIGHT,
+        """the minutes booked and those free are together at most 90. This is false: where `asked` is 30 three times in a row, 90
+        are booked at instant 2 and 30 are free, together 120.""",
+        "1, but no depth would do.",
+        """the argument is the first case of flight-list's alone. Clause 2 of a greater is that `free` is at most `rest` or at most
+        `slot`. Line 4 says that `free` is at most `rest`, as if a greater were never its second operand, and is refused with 17: a
+        literal is missing. But for line 25, which says the same in the step, all lines after it would stand, up to the empty ones:
+        a checker that is content if what a line has stands in the clause would accept a false property. With both literals the
+        second case is left, which nothing contradicts.""",
+        flight_proofs.forged(), "refused 17 line 4", (), "", tuple(flight_proofs.TABLES["forged-flight-list"]),
+        """that of flight-list, but `sum` has 119 for 120, too small by one. `before` is at most 90 and `minutes` at most 30, so
+        that 120 would have to be inside, and record 7 is named. With the inputs from above and 30 once more `sum` is 120, at
+        instant 3. With the table of flight-list the node would be listed: `free` is 30 to 90 by its operator, which lies inside
+        0 to 90. A table says nothing of the property.""",
+        "refused 72 record 7"),
 )
 
 PAGE = """# Examples
 
 Nodes of a booking scheduler. Each folder has a node file, a certificate file, the one line `verdict` that a checker says of the
-two, and a page that gives the equations and the argument. `tools/make_examples.py` writes them all.
+two, and a page that gives the equations and the argument. Those for the flight list also have a table of ranges, `table.bin`, and
+the one line `listed` that the check of ranges says of node and table. `tools/make_examples.py` writes them all.
 
 | Folder | What it is | Verdict |
 |---|---|---|
@@ -344,6 +419,10 @@ two, and a page that gives the equations and the argument. `tools/make_examples.
 From `rust/reference`, a listing of both files and the verdict of the second checker:
 
     cargo run --offline --quiet --bin reference-list ../../examples/quota/node.bin ../../examples/quota/cert.bin
+
+The line on a table of ranges, after its name:
+
+    tools/check-ranges examples/flight-list/node.bin examples/flight-list/table.bin
 """
 
 
@@ -356,6 +435,9 @@ def main():
         (files / "cert.bin").write_bytes(example.certificate.file())
         (files / "verdict").write_text(f"{example.verdict}\n")
         (files / "README.md").write_text(example.page())
+        if example.ranges:
+            (files / "table.bin").write_bytes(table(example.ranges))
+            (files / "listed").write_text(f"{example.listed}\n")
     rows = [f"| [{e.name}]({e.name}/README.md) | {e.title} | `{e.verdict}` |" for e in EXAMPLES]
     (folder / "README.md").write_text(PAGE.format(rows="\n".join(rows)))
     print(f"{len(EXAMPLES)} examples")

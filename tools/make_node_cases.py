@@ -40,8 +40,8 @@ def shuffled(chain):
 def valid():
     accepted("two-bands.bin", node(TWO_BANDS, 5), 6, 5, 2)
     accepted("two-bands-with-note.bin", node(TWO_BANDS, 5, b"two bands, one dish"), 6, 5, 2, 19)
-    accepted("all-operators.bin", node(ALL, 17), 20, 17, 2)
-    accepted("all-operators-with-note.bin", node(ALL, 0, b"\0"), 20, 0, 2, 1)
+    accepted("all-operators.bin", node(ALL, 17), 22, 17, 2)
+    accepted("all-operators-with-note.bin", node(ALL, 0, b"\0"), 22, 0, 2, 1)
     accepted("one-stream.bin", node([INPUT], 0), 1, 0, 1)
     accepted("one-stream-with-note.bin", node([rec(1, BOOL, k=0)], 0, b"x" * 5), 1, 0, 0, 5)
     accepted("sixty-four-streams.bin", node(CHAIN, 63), 64, 63, 1)
@@ -59,9 +59,9 @@ def in_any_order():
     accepted("property-first-with-note.bin", node(PROPERTY_FIRST, 0, b"as people write it"), 6, 0, 2, 18)
     accepted("two-bands-reversed.bin", node(
         [rec(2, BOOL, 1), rec(3, BOOL, 5, 2), rec(3, BOOL, 4, 3), rec(2, BOOL, 5), INPUT, INPUT], 0), 6, 0, 2)
-    # 17 becomes 2
-    accepted("all-operators-reversed.bin", node(reordered(ALL, range(19, -1, -1)), 2), 20, 2, 2)
-    accepted("all-operators-reversed-with-note.bin", node(reordered(ALL, range(19, -1, -1)), 19, b"\xff"), 20, 19, 2, 1)
+    # 17 becomes 4
+    accepted("all-operators-reversed.bin", node(reordered(ALL, range(21, -1, -1)), 4), 22, 4, 2)
+    accepted("all-operators-reversed-with-note.bin", node(reordered(ALL, range(21, -1, -1)), 21, b"\xff"), 22, 21, 2, 1)
     accepted("sixty-four-streams-reversed.bin", node(REVERSED_CHAIN, 0), 64, 0, 1)
     accepted("sixty-four-streams-shuffled.bin", node(shuffled(CHAIN), 42), 64, 42, 1)
     # every stream but the last reads the last twice
@@ -198,7 +198,7 @@ def of_the_file():
 
 def of_records():
     for name, i in (("first", 0), ("middle", 3), ("last", 5)):
-        refused(f"5-operator-14-{name}.bin", node(replaced(TWO_BANDS, i, rec(14, BOOL)), 5), 5, f"record {i}")
+        refused(f"5-operator-16-{name}.bin", node(replaced(TWO_BANDS, i, rec(16, BOOL)), 5), 5, f"record {i}")
         refused(f"5-type-2-{name}.bin", node(replaced(TWO_BANDS, i, rec(0, 2)), 5), 5, f"record {i}")
     for name, k, kind, op in (("value-past-limit", LIMIT + 1, INT, 1), ("value-past-negative-limit", -LIMIT - 1, INT, 1),
                               ("factor-past-limit", LIMIT + 1, INT, 8), ("factor-past-negative-limit", -LIMIT - 1, INT, 8),
@@ -214,11 +214,11 @@ def of_records():
     refused("5-arrow-with-operand-c.bin", node(replaced(TWO_BANDS, 4, rec(12, BOOL, 0, 3, 256)), 5), 5, "record 4")
     for i in range(4):
         refused(f"5-zero-byte-{i}.bin", node(replaced(TWO_BANDS, i, rec(0, BOOL, rest=1 << (8 * i))), 5), 5, f"record {i}")
-    refused("5-lowest-of-two.bin", node(replaced(replaced(TWO_BANDS, 4, rec(14, 0)), 2, rec(255, 0)), 5), 5, "record 2")
-    refused("5-before-6-and-7.bin", node([INPUT, rec(2, INT, 9), rec(14, BOOL)], 0), 5, "record 2")
-    refused("5-before-23.bin", node([rec(2, BOOL, 0), rec(14, BOOL)], 0), 5, "record 1")
+    refused("5-lowest-of-two.bin", node(replaced(replaced(TWO_BANDS, 4, rec(16, 0)), 2, rec(255, 0)), 5), 5, "record 2")
+    refused("5-before-6-and-7.bin", node([INPUT, rec(2, INT, 9), rec(16, BOOL)], 0), 5, "record 2")
+    refused("5-before-23.bin", node([rec(2, BOOL, 0), rec(16, BOOL)], 0), 5, "record 1")
     refused("5-before-6-and-23.bin", node([rec(2, BOOL, 0), rec(2, BOOL, 9), rec(2, BOOL, 0, 1)], 0), 5, "record 2")
-    refused("5-last-of-64.bin", node(replaced(CHAIN, 63, rec(14, BOOL)), 0), 5, "record 63")
+    refused("5-last-of-64.bin", node(replaced(CHAIN, 63, rec(16, BOOL)), 0), 5, "record 63")
 
     refused("6-operand-is-n.bin", node(replaced(TWO_BANDS, 5, rec(2, BOOL, 6)), 5), 6, "record 5")
     refused("6-operand-65535.bin", node(replaced(TWO_BANDS, 2, rec(2, BOOL, 65535)), 5), 6, "record 2")
@@ -254,12 +254,80 @@ def of_records():
 
     refused("8-first.bin", node([rec(0, INT)], 0), 8, "record 0")
     refused("8-middle.bin", node([INPUT, rec(0, INT), INPUT], 1), 8, "record 1")
-    refused("8-last.bin", node(ALL, 19), 8, "record 19")
+    refused("8-last.bin", node(ALL, 21), 8, "record 21")
     refused("8-of-reordered.bin", node([rec(8, INT, 1, k=2), rec(0, INT)], 0), 8, "record 0")
 
 
+def lessers():
+    """Operators 14 and 15, lesser and greater, where a file is accepted."""
+    both = [NUMBER, NUMBER, rec(14, INT, 0, 1), rec(15, INT, 0, 1), rec(9, BOOL, 2, 3)]
+    accepted("lesser-and-greater.bin", node(both, 4), 5, 4, 2)
+    accepted("lesser-and-greater-with-note.bin", node(both, 4, b"held by both"), 5, 4, 2, 12)
+    accepted("lesser-and-greater-reversed.bin", node(reordered(both, range(4, -1, -1)), 0), 5, 0, 2)
+    accepted("lesser-of-one-operand.bin", node([NUMBER, rec(14, INT, 0, 0), rec(15, INT, 0, 0), INPUT], 3), 4, 3, 2)
+    # each reads the one before it and the first; the property is the last
+    chain = [NUMBER] + [rec(14 + i % 2, INT, i, 0) for i in range(62)] + [INPUT]
+    accepted("sixty-four-lessers.bin", node(chain, 63), 64, 63, 2)
+    accepted("sixty-four-lessers-reversed.bin", node(reordered(chain, range(63, -1, -1)), 0), 64, 0, 2)
+    accepted("sixty-four-lessers-shuffled.bin", node(shuffled(chain), 42), 64, 42, 2)
+    accepted("lesser-operand-63-of-64.bin", node([rec(14, INT, 63, 62)] + [INPUT] * 61 + [NUMBER] * 2, 1), 64, 1, 63)
+    accepted("lesser-operand-b-later.bin", node([NUMBER, rec(14, INT, 0, 2), NUMBER, INPUT], 3), 4, 3, 3)
+    accepted("greater-operand-a-later.bin", node([NUMBER, rec(15, INT, 2, 0), NUMBER, INPUT], 3), 4, 3, 3)
+    # 1 = 0 -> pre 2
+    accepted("lesser-closed-by-pre.bin", node([NUMBER, rec(13, INT, 0, 2), rec(14, INT, 0, 1), rec(9, BOOL, 2, 0)], 3), 4, 3, 1)
+    accepted("greater-closed-by-pre.bin", node([rec(15, INT, 1, 2), rec(13, INT, 2, 0), NUMBER, rec(9, BOOL, 2, 0)], 3), 4, 3, 1)
+
+
+def of_lessers():
+    """Operators 14 and 15 against each rule of records."""
+    ints = [INPUT, NUMBER, NUMBER]
+
+    def third(number, name, record):
+        refused(f"{number}-{name}.bin", node(ints + [record], 0), number, "record 3")
+
+    third(5, "operator-16-int", rec(16, INT, 1, 2))
+    third(5, "operator-17", rec(17, INT, 1, 2))
+    # 14 and 15 in the low four bits, and in the low seven
+    for op in (30, 31, 142, 143):
+        third(5, f"operator-{op}", rec(op, INT, 1, 2))
+    for name, op in (("lesser", 14), ("greater", 15)):
+        third(5, f"{name}-with-constant", rec(op, INT, 1, 2, k=1))
+        third(5, f"{name}-with-negative-constant", rec(op, INT, 1, 2, k=-1))
+        third(5, f"{name}-with-operand-c", rec(op, INT, 1, 2, 1))
+        third(5, f"{name}-with-operand-c-256", rec(op, INT, 1, 2, 256))
+        third(5, f"{name}-with-type-2", rec(op, 2, 1, 2))
+        third(5, f"{name}-with-zero-byte", rec(op, INT, 1, 2, rest=1 << 24))
+        third(6, f"{name}-first-is-n", rec(op, INT, 4, 2))
+        third(6, f"{name}-second-is-n", rec(op, INT, 1, 4))
+        third(6, f"{name}-first-65535", rec(op, INT, 65535, 2))
+        third(6, f"{name}-second-plus-256", rec(op, INT, 1, 256 + 2))
+        third(23, f"{name}-of-itself-and-another", rec(op, INT, 3, 1))
+        third(23, f"{name}-of-another-and-itself", rec(op, INT, 1, 3))
+        third(23, f"{name}-of-itself-twice", rec(op, INT, 3, 3))
+        third(7, f"{name}-typed-bool", rec(op, BOOL, 1, 2))
+        third(7, f"{name}-first-bool", rec(op, INT, 0, 2))
+        third(7, f"{name}-second-bool", rec(op, INT, 1, 0))
+        third(7, f"{name}-of-bools", rec(op, INT, 0, 0))
+        third(7, f"{name}-of-bools-typed-bool", rec(op, BOOL, 0, 0))
+        for operand, a, b in (("a", 2, 0), ("b", 0, 2)):
+            refused(f"23-through-{name}-{operand}.bin", through(NUMBER, op, INT, a, b, back=rec(8, INT, 1, k=1)), 23, "record 1")
+        refused(f"8-property-is-{name}.bin", node(ints + [rec(op, INT, 1, 2)], 3), 8, "record 3")
+        refused(f"7-not-of-{name}.bin", node(ints + [rec(op, INT, 1, 2), rec(2, BOOL, 3)], 0), 7, "record 4")
+
+    # where 14 or 15 stood for no operator: an input's fields, which now are those of a stream that reads stream 0
+    refused("7-operator-14-of-two-bands.bin", node(replaced(TWO_BANDS, 3, rec(14, BOOL)), 5), 7, "record 3")
+    refused("23-operator-15-of-two-bands.bin", node(replaced(TWO_BANDS, 0, rec(15, BOOL)), 5), 23, "record 0")
+    # a loop of both, for which the lowest waits
+    loop = [rec(14, INT, 3, 4), INPUT, rec(15, INT, 3, 4), rec(14, INT, 2, 4), NUMBER]
+    refused("23-waits-for-lesser-and-greater.bin", node(loop, 1), 23, "record 0")
+    refused("5-before-7-of-lesser.bin", node(ints + [rec(14, BOOL, 0, 0), rec(15, INT, 1, 2, k=1)], 0), 5, "record 4")
+    refused("6-before-23-of-lesser.bin", node(ints + [rec(14, INT, 3, 1), rec(15, INT, 1, 5)], 0), 6, "record 4")
+    refused("23-before-7-of-lesser.bin", node(ints + [rec(14, BOOL, 0, 0), rec(15, INT, 4, 1)], 0), 23, "record 4")
+    refused("7-before-8-of-lesser.bin", node([NUMBER, INPUT, rec(14, INT, 0, 1)], 0), 7, "record 2")
+
+
 def main():
-    for cases in (valid, in_any_order, of_the_file, of_records, of_loops, of_waiting):
+    for cases in (valid, in_any_order, lessers, of_the_file, of_records, of_loops, of_waiting, of_lessers):
         cases()
     write_data("check_node", {name: content for name, content, _ in CASES})
     write_lines("check_node", "args", [name for name, _, _ in CASES])

@@ -12,6 +12,7 @@ written down. The files go to crates/run_passes/data, the names, node and pass i
 """
 import struct
 
+import flight_proofs
 import order_proofs
 from node_files import ALL, BOOL, INPUT, INT, PROPERTY_FIRST, TWO_BANDS, node, rec, reordered, replaced, write_data, write_lines
 
@@ -38,11 +39,13 @@ ROWS = {
     11: lambda a, b, c, k, now, before: now[a] if now[c] == 1 else now[b],
     12: lambda a, b, c, k, now, before: now[a] if before is None else now[b],
     13: lambda a, b, c, k, now, before: now[a] if before is None else before[b],
+    14: lambda a, b, c, k, now, before: now[a] if now[a] <= now[b] else now[b],
+    15: lambda a, b, c, k, now, before: now[b] if now[a] <= now[b] else now[a],
 }
 
 
 # how many operands each operator needs now, a first
-NEEDED = (0, 0, 1, 2, 2, 2, 2, 2, 1, 2, 2, 3, 2, 1)
+NEEDED = (0, 0, 1, 2, 2, 2, 2, 2, 1, 2, 2, 3, 2, 1, 2, 2)
 
 
 def order_of(records):
@@ -337,10 +340,10 @@ def outside():
 
 def whole_nodes():
     p = begun("all-operators", ALL, 17)
-    p.call(1, 5, says="answered 1 5 1 -7 0 0 1 1 -2 -7 -21 0 0 0 -7 1 -7 1 -7 -2")
-    p.call(0, -4, says="answered 0 -4 1 -7 1 0 1 0 -11 -7 -21 0 0 0 -7 0 -7 1 -2 -6")
+    p.call(1, 5, says="answered 1 5 1 -7 0 0 1 1 -2 -7 -21 0 0 0 -7 1 -7 1 -7 -2 -7 -2")
+    p.call(0, -4, says="answered 0 -4 1 -7 1 0 1 0 -11 -7 -21 0 0 0 -7 0 -7 1 -2 -6 -7 -6")
     p.call(1, LEAST, says="refused 34 record 8")
-    p.call(1, -30, says="answered 1 -30 1 -7 0 0 1 1 -37 -7 -21 1 0 0 -37 0 -37 1 -6 -36")
+    p.call(1, -30, says="answered 1 -30 1 -7 0 0 1 1 -37 -7 -21 1 0 0 -37 0 -37 1 -6 -36 -30 -30")
     p.calls((2, 0), (0, 0), (1, -21), (0, GREATEST), (0, 6))
 
     p = begun("all-operators-with-note", ALL, 0, b"every operator")
@@ -443,21 +446,21 @@ def reordered_nodes():
 
 def shuffled_nodes():
     # 1, an int, is now the first input, and 0 the second
-    order = [13, 4, 19, 1, 16, 10, 7, 18, 15, 2, 9, 6, 12, 0, 17, 3, 14, 5, 11, 8]
+    order = [13, 4, 19, 1, 16, 10, 7, 18, 15, 2, 9, 6, 12, 0, 17, 3, 14, 5, 11, 8, 21, 20]
     p = begun("all-operators-shuffled", reordered(ALL, order), order.index(17))
-    p.call(5, 1, says=shown(order, "answered 1 5 1 -7 0 0 1 1 -2 -7 -21 0 0 0 -7 1 -7 1 -7 -2"))
-    p.call(-4, 0, says=shown(order, "answered 0 -4 1 -7 1 0 1 0 -11 -7 -21 0 0 0 -7 0 -7 1 -2 -6"))
+    p.call(5, 1, says=shown(order, "answered 1 5 1 -7 0 0 1 1 -2 -7 -21 0 0 0 -7 1 -7 1 -7 -2 -7 -2"))
+    p.call(-4, 0, says=shown(order, "answered 0 -4 1 -7 1 0 1 0 -11 -7 -21 0 0 0 -7 0 -7 1 -2 -6 -7 -6"))
     # record 2 is 19, which is -6 and the int, and stands in the order before record 19, which is 8, the int less 7
     p.call(LEAST, 1, says="refused 34 record 2")
     p.call(LEAST + 6, 1, says="refused 34 record 19")
     p.call(LEAST, 2, says="refused 33 record 13")
-    p.call(-30, 1, says=shown(order, "answered 1 -30 1 -7 0 0 1 1 -37 -7 -21 1 0 0 -37 0 -37 1 -6 -36"))
+    p.call(-30, 1, says=shown(order, "answered 1 -30 1 -7 0 0 1 1 -37 -7 -21 1 0 0 -37 0 -37 1 -6 -36 -30 -30"))
     p.calls((0, 2), (0, 0), (-21, 1), (GREATEST, 0), (6, 0))
-    order = list(range(19, -1, -1))
-    p = begun("all-operators-reversed", reordered(ALL, order), 2)
-    p.call(5, 1, says=shown(order, "answered 1 5 1 -7 0 0 1 1 -2 -7 -21 0 0 0 -7 1 -7 1 -7 -2"))
-    p.call(-4, 0, says=shown(order, "answered 0 -4 1 -7 1 0 1 0 -11 -7 -21 0 0 0 -7 0 -7 1 -2 -6"))
-    p.call(-30, 1, says=shown(order, "answered 1 -30 1 -7 0 0 1 1 -37 -7 -21 1 0 0 -37 0 -37 1 -6 -36"))
+    order = list(range(21, -1, -1))
+    p = begun("all-operators-reversed", reordered(ALL, order), 4)
+    p.call(5, 1, says=shown(order, "answered 1 5 1 -7 0 0 1 1 -2 -7 -21 0 0 0 -7 1 -7 1 -7 -2 -7 -2"))
+    p.call(-4, 0, says=shown(order, "answered 0 -4 1 -7 1 0 1 0 -11 -7 -21 0 0 0 -7 0 -7 1 -2 -6 -7 -6"))
+    p.call(-30, 1, says=shown(order, "answered 1 -30 1 -7 0 0 1 1 -37 -7 -21 1 0 0 -37 0 -37 1 -6 -36 -30 -30"))
     p.calls((0, 2), (0, 0), (-21, 1), (GREATEST, 0), (6, 0))
 
     # stream i of the chain is record 29 i + 7, modulo 64
@@ -539,13 +542,129 @@ def operators():
     p.calls((GREATEST, GREATEST), (-1, 0), (0, -1), (-1, -1), (-1, 1), (1, -1), (LEAST, 0), (0, LEAST), (LEAST, LEAST + 1), (-2, -1))
 
 
+def lessers():
+    """Operators 14 and 15, of each operand and of both."""
+    p = begun("lesser-and-greater", [NUMBER, NUMBER, rec(14, INT, 0, 1), rec(15, INT, 0, 1), rec(14, INT, 1, 0),
+                                     rec(15, INT, 1, 0), TRUE], 6)
+    p.call(3, 5, says="answered 3 5 3 5 3 5 1")
+    p.call(5, 3, says="answered 5 3 3 5 3 5 1")
+    p.call(4, 4, says="answered 4 4 4 4 4 4 1")
+    p.call(-3, -5, says="answered -3 -5 -5 -3 -5 -3 1")
+    p.call(-5, -3, says="answered -5 -3 -5 -3 -5 -3 1")
+    p.call(-4, -4, says="answered -4 -4 -4 -4 -4 -4 1")
+    p.call(-1, 1, says="answered -1 1 -1 1 -1 1 1")
+    p.call(0, -1, says="answered 0 -1 -1 0 -1 0 1")
+    p.call(0, 0, says="answered 0 0 0 0 0 0 1")
+    p.call(LEAST, GREATEST, says="answered {0} {1} {0} {1} {0} {1} 1".format(LEAST, GREATEST))
+    p.call(GREATEST, LEAST, says="answered {1} {0} {0} {1} {0} {1} 1".format(LEAST, GREATEST))
+    p.call(LEAST, LEAST, says="answered" + f" {LEAST}" * 6 + " 1")
+    p.call(GREATEST, GREATEST, says="answered" + f" {GREATEST}" * 6 + " 1")
+    p.call(LEAST, 0, says="answered {0} 0 {0} 0 {0} 0 1".format(LEAST))
+    p.call(GREATEST, 0, says="answered {0} 0 0 {0} 0 {0} 1".format(GREATEST))
+    p.calls((LEAST, LEAST + 1), (LEAST + 1, LEAST), (GREATEST - 1, GREATEST), (GREATEST, GREATEST - 1), (LEAST, -1),
+            (-1, GREATEST), (1 << 31, -(1 << 31)), (1 << 32, 1), (-(1 << 32), -1), ((1 << 32) - 1, 1 << 32), (HALF, -HALF),
+            (5, 256))
+    p.call(1, says="refused 31 file")
+    p.call(1, 2, room=6, says="refused 32 file")
+    p.call(2, 1, says="answered 2 1 1 2 1 2 1")
+
+    p = begun("lesser-of-one-operand", [NUMBER, rec(14, INT, 0, 0), rec(15, INT, 0, 0), rec(10, BOOL, 1, 2)], 3)
+    for x in (7, -7, 0, LEAST, GREATEST):
+        p.call(x, says=f"answered {x} {x} {x} 1")
+
+
+def held():
+    """Counters that 14 and 15 hold, at instant 0 and later."""
+    # 3 = 10 -> pre 5; 4 = 3 + x; 5 = lesser of 4 and 12
+    p = begun("held-by-lesser", [NUMBER, rec(1, INT, k=10), rec(1, INT, k=12), rec(13, INT, 1, 5), rec(6, INT, 3, 0),
+                                 rec(14, INT, 4, 2), rec(9, BOOL, 5, 2)], 6)
+    p.call(1, says="answered 1 10 12 10 11 11 1")
+    p.call(1, says="answered 1 10 12 11 12 12 1")
+    p.call(1, says="answered 1 10 12 12 13 12 1")
+    p.call(GREATEST, says="refused 34 record 4")
+    p.call(GREATEST - 12, says=f"answered {GREATEST - 12} 10 12 12 {GREATEST} 12 1")
+    p.call(-20, says="answered -20 10 12 12 -8 -8 1")
+    p.call(LEAST, says="refused 34 record 4")
+    p.call(LEAST + 8, says=f"answered {LEAST + 8} 10 12 -8 {LEAST} {LEAST} 1")
+    # 2 = greater of x and 0, 3 = 2 -> pre 2, 4 = 2 -> x
+    p = begun("held-at-instant-0", [NUMBER, rec(1, INT), rec(15, INT, 0, 1), rec(13, INT, 2, 2), rec(12, INT, 2, 0),
+                                    rec(9, BOOL, 1, 3)], 5)
+    p.call(-5, says="answered -5 0 0 0 0 1")
+    p.call(6, says="answered 6 0 6 0 6 1")
+    p.call(-7, says="answered -7 0 0 6 -7 1")
+    p.call(0, says="answered 0 0 0 0 0 1")
+    # the least and the greatest input so far: 2 = 0 -> pre 3, 3 = lesser of 0 and 2; 4 and 5 likewise
+    p = begun("least-and-greatest-so-far", [NUMBER, TRUE, rec(13, INT, 0, 3), rec(14, INT, 0, 2), rec(13, INT, 0, 5),
+                                            rec(15, INT, 4, 0)], 1)
+    p.call(4, says="answered 4 1 4 4 4 4")
+    p.call(9, says="answered 9 1 4 4 4 9")
+    p.call(-2, says="answered -2 1 4 -2 9 9")
+    p.call(3, says="answered 3 1 -2 -2 9 9")
+    p.calls((GREATEST,), (1,), (LEAST,), (0,))
+
+    # the node of examples/flight-list: a pass of 90 minutes, at most 30 an instant
+    p = begun("flight-list", flight_proofs.FLIGHT_LIST, 13)
+    p.call(25, says="answered 25 0 30 90 25 25 0 25 25 90 65 65 90 1")
+    p.call(4_000_000_000, says="answered 4000000000 0 30 90 4000000000 30 25 55 55 65 35 35 90 1")
+    p.call(-4_000_000_000, says="answered -4000000000 0 30 90 0 0 55 55 55 35 35 35 90 1")
+    p.call(room=14, says="refused 31 file")
+    p.call(30, says="answered 30 0 30 90 30 30 55 85 85 35 5 5 90 1")
+    p.call(30, says="answered 30 0 30 90 30 30 85 115 90 5 -25 0 90 1")
+    p.call(GREATEST, says=f"answered {GREATEST} 0 30 90 {GREATEST} 30 90 120 90 0 -30 0 90 1")
+    p.call(LEAST, says=f"answered {LEAST} 0 30 90 0 0 90 90 90 0 0 0 90 1")
+    # that of examples/forged-flight-list: 13 fails from instant 2 on, and 7 is over 119 at instant 3
+    p = begun("forged-flight-list", flight_proofs.FORGED, 13)
+    p.call(30, says="answered 30 0 30 90 30 30 0 30 30 90 60 60 90 1")
+    p.call(30, says="answered 30 0 30 90 30 30 30 60 60 60 30 30 90 1")
+    p.call(30, says="answered 30 0 30 90 30 30 60 90 90 30 0 30 120 0")
+    p.call(30, says="answered 30 0 30 90 30 30 90 120 90 30 0 30 120 0")
+
+
+def lessers_reordered():
+    """14 and 15 before their operands, and in any order."""
+    p = begun("lesser-reversed", [rec(9, BOOL, 1, 2), rec(14, INT, 4, 3), rec(15, INT, 4, 3), NUMBER, NUMBER], 0)
+    p.call(3, 5, says="answered 1 3 5 3 5")
+    p.call(GREATEST, LEAST, says=f"answered 1 {LEAST} {GREATEST} {GREATEST} {LEAST}")
+    p.call(-6, -6, says="answered 1 -6 -6 -6 -6")
+    # 1 = 5 -> pre 0; 0 = lesser of 1 and 4; 2 = greater of 0 and 3, where 3 is twice 4
+    p = begun("lesser-in-any-order", [rec(14, INT, 1, 4), rec(13, INT, 5, 0), rec(15, INT, 0, 3), rec(8, INT, 4, k=2), NUMBER,
+                                      rec(1, INT, k=7), INPUT], 6)
+    p.call(9, 1, says="answered 7 7 18 18 9 7 1")
+    p.call(-1, 0, says="answered -1 7 -1 -2 -1 7 0")
+    p.call(4, 0, says="answered -1 -1 8 8 4 7 0")
+    # what 14 and 15 read is worked out, also where it is not the one they take
+    p = begun("lesser-of-one-outside", [rec(14, INT, 1, 2), rec(6, INT, 2, 2), NUMBER, TRUE], 3)
+    p.call(HALF, says="refused 34 record 1")
+    p.call(HALF - 1, says="answered 4611686018427387903 9223372036854775806 4611686018427387903 1")
+    p.call(-HALF, says="answered -9223372036854775808 -9223372036854775808 -4611686018427387904 1")
+    p.call(-HALF - 1, says="refused 34 record 1")
+    p = begun("twice-the-greater", [NUMBER, NUMBER, rec(15, INT, 0, 1), rec(6, INT, 2, 2), rec(14, INT, 0, 1), rec(6, INT, 4, 4),
+                                    TRUE], 6)
+    p.call(HALF, 0, says="refused 34 record 3")
+    p.call(0, -HALF - 1, says="refused 34 record 5")
+    p.call(HALF, -HALF - 1, says="refused 34 record 3")
+    p.call(HALF - 1, -HALF, says="answered 4611686018427387903 -4611686018427387904 4611686018427387903 9223372036854775806"
+                                 " -4611686018427387904 -9223372036854775808 1")
+
+    # stream i is the greater of the one before it and the first where i is even, else the lesser of it and the last
+    chain = [NUMBER] + [rec(14 + i % 2, INT, i, 63 * (1 - i % 2)) for i in range(62)] + [NUMBER]
+    p = begun("sixty-four-lessers", replaced(chain, 62, rec(9, BOOL, 61, 0)), 62)
+    p.call(5, 3, says="answered 5" + " 3 5" * 30 + " 3 1 3")
+    p.call(5, 9, says="answered" + " 5" * 62 + " 1 9")
+    p.call(LEAST, GREATEST, says="answered" + f" {LEAST}" * 62 + f" 1 {GREATEST}")
+    order = list(range(63, -1, -1))
+    p = begun("sixty-four-lessers-reversed", reordered(replaced(chain, 62, rec(9, BOOL, 61, 0)), order), 1)
+    p.call(3, 5, says=shown(order, "answered 5" + " 3 5" * 30 + " 3 1 3"))
+    p.call(9, 5, says=shown(order, "answered" + " 5" * 62 + " 1 9"))
+
+
 def no_node():
     refused("1-missing", None, "refused 1 file")
     refused("1-length-15", node(TWO_BANDS, 5)[-15:], "refused 1 file")
     refused("2-version-2", node(TWO_BANDS, 5, version=2), "refused 2 file")
     refused("3-property-is-n", node(TWO_BANDS, 6), "refused 3 file")
     refused("4-past-the-start", node(TWO_BANDS, 5)[1:], "refused 4 file")
-    refused("5-operator-14", node(replaced(TWO_BANDS, 3, rec(14, BOOL)), 5), "refused 5 record 3")
+    refused("5-operator-16", node(replaced(TWO_BANDS, 3, rec(16, BOOL)), 5), "refused 5 record 3")
     refused("6-operand-is-n", node(replaced(TWO_BANDS, 4, rec(3, BOOL, 0, 6)), 5), "refused 6 record 4")
     refused("23-reads-itself", node(replaced(TWO_BANDS, 4, rec(3, BOOL, 0, 4)), 5), "refused 23 record 4")
     # 1 = 3 and 2, 2 = not 1; the property only waits for them
@@ -553,12 +672,14 @@ def no_node():
     refused("23-property-waits", node(loop, 0), "refused 23 record 0")
     refused("23-with-note", node(loop, 0, node(TWO_BANDS, 5)), "refused 23 record 0")
     refused("7-not-typed-int", node(replaced(TWO_BANDS, 2, rec(2, INT, 0)), 5), "refused 7 record 2")
+    refused("7-lesser-of-bools", node(replaced(TWO_BANDS, 3, rec(14, BOOL)), 5), "refused 7 record 3")
+    refused("23-greater-of-itself", node(replaced(TWO_BANDS, 0, rec(15, BOOL)), 5), "refused 23 record 0")
     refused("8-property-is-int", node(TWO_BANDS + [NUMBER], 6), "refused 8 record 6")
 
 
 def main():
     for part in (two_bands, order, counters, arrows, sums, multiples, outside, whole_nodes, reordered_nodes, shuffled_nodes,
-                 first_outside, operators, no_node):
+                 first_outside, operators, lessers, held, lessers_reordered, no_node):
         part()
     write_data("run_passes", FILES)
     write_lines("run_passes", "args", NAMES)

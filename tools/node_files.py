@@ -1,4 +1,5 @@
-"""Writers of node files, field by field, right or wrong; and of the folder of a program that is run on files."""
+"""Writers of node files, field by field, right or wrong, and of tables of ranges; and of the folder of a program that is run on
+files."""
 import pathlib
 import shutil
 import struct
@@ -22,12 +23,17 @@ def node(records, prop, note=b"", **fields):
     return note + b"".join(records) + trailer(n, prop, **fields)
 
 
+def table(ranges):
+    """A table of ranges: least and greatest of stream 0, of stream 1, and on, 8 bytes each."""
+    return struct.pack(f"<{2 * len(ranges)}q", *[end for ends in ranges for end in ends])
+
+
 def replaced(items, i, item):
     return items[:i] + [item] + items[i + 1:]
 
 
 # how many operands an operator reads, a first
-OPERANDS = (0, 0, 1, 2, 2, 2, 2, 2, 1, 2, 2, 3, 2, 2)
+OPERANDS = (0, 0, 1, 2, 2, 2, 2, 2, 1, 2, 2, 3, 2, 2, 2, 2)
 
 
 def reordered(records, order):
@@ -73,6 +79,8 @@ ALL = [
     rec(13, BOOL, 2, 17),               # 17, of itself one instant before
     rec(13, INT, 3, 19),                # 18, of a later record
     rec(6, INT, 18, 1),                 # 19
+    rec(14, INT, 1, 3),                 # 20
+    rec(15, INT, 19, 20),               # 21
 ]
 
 
