@@ -3,23 +3,24 @@
 use mathlib.Core.Path.{_≡_, refl, sym, _∙_, ap}
 use mathlib.Core.Bool.{Bool, true, false}
 use mathlib.Core.List.{List, [], _∷_, _++_}
-use Prim.Native.Nat.{ℕ, zero, suc, _+_, _-_, _*_, _<_, _≤_}
+use Prim.Native.Nat.{ℕ, zero, suc, _+_, _-_, _<_, _≤_}
 use native.Mathlib.Nat.{le-of-suc-le-suc, not-suc-le-zero}
 use native.Mathlib.Omega.{arith}
 use borrow.Author.Tests.{lt-ltb, le-ltb, ltb-true, ltb-false}
 use lib.Dec.{ltb}
 use lib.IntN.{ℤ, pos}
-use lib.ListN.{length, getD, take, drop, replicate, length-drop, length-replicate}
-use lib.Seq.{ext-getD, take-length, take-at}
-use Rattle.answers.proofs.Prefix.{below}
-use Rattle.fields.specs.Fields.{u16At, i64At}
+use lib.ListN.{length, take, drop, replicate, length-drop, length-replicate, drop-of-length-le}
+use lib.Seq.{take-length, take-at}
+use Rattle.fields.specs.Fields.{u16At}
+use Rattle.numbers.specs.Numbers.{numberAt, numbersFrom}
+use Rattle.numbers.proofs.Rows.{numbers-taken}
 use Rattle.answers.specs.Answer.{Answer}
 use Rattle.report.specs.Call.{callLine}
 use Rattle.report.specs.Line.{overwritten}
 use Rattle.session.specs.Instants.{answerOf, sessionOf, sliceOf}
 use Rattle.session.specs.Lists.{Call, after, afterAll}
 use Rattle.session.specs.declared.Session.{Session}
-use Rattle.run_passes.specs.Pass.{sizeOf, firstSize, countAt, inputAt, inputsFrom, callOf, callsWithin, callsOf, ShownOf}
+use Rattle.run_passes.specs.Pass.{sizeOf, firstSize, countAt, firstInputs, callOf, callsWithin, callsOf, ShownOf}
 
 module _ (calls : List ℕ) where
   pub size-none : length calls < 4 → 0 ≡ firstSize calls
@@ -67,51 +68,14 @@ module _ (call : List ℕ) (at : ℕ) where
   pub count-most : countAt call at ≤ 65
   count-most = at-most (ltb (length call) 4) (ltb (u16At call at) 65) refl refl
 
-module _ (call : List ℕ) (i : ℕ) where
-  pub input-there : 12 + 8 * i ≤ length call → i64At call (4 + 8 * i) ≡ inputAt call i
-  unfolding inputAt
-  input-there h = rw (le-ltb (length call) (12 + 8 * i) h)
-
-  past-end : (x : ℕ) → length call < 12 + 8 * i → i ≤ x → pos 0 ≡ inputAt call x
-  unfolding inputAt
-  past-end x l h = rw (lt-ltb (length call) (12 + 8 * x) (omega arith))
-
-  pub all-read : (x : ℕ) → x < i → below (inputAt call) (pos 0) i x ≡ inputAt call x
-  all-read x l = rw (lt-ltb x i l)
-
-  cut-by : (x : ℕ) → length call < 12 + 8 * i → (b : Bool) → ltb x i ≡ b → below (inputAt call) (pos 0) i x ≡ inputAt call x
-  cut-by x l true e = all-read x (ltb-true x i e)
-  cut-by x l false e = rw e (past-end x l (ltb-false x i e))
-
-  -- where no input i is there, none after it is
-  pub cut-off : (x : ℕ) → length call < 12 + 8 * i → below (inputAt call) (pos 0) i x ≡ inputAt call x
-  cut-off x l = cut-by x l (ltb x i) refl
-
 module _ (call : List ℕ) where
-  pub inputs-length : (i n : ℕ) → length (inputsFrom call i n) ≡ n
-  unfolding inputsFrom
-  inputs-length i zero = refl
-  inputs-length i (suc n) = ap suc (inputs-length (suc i) n)
+  -- where not even the counts are there, no input is
+  pub no-inputs : length call < 4 → firstInputs call 65 ≡ replicate 65 (pos 0)
+  unfolding numberAt numbersFrom
+  no-inputs l = rw (drop-of-length-le call {i = 4} (omega arith))
 
-  inputs-entry : (i n x : ℕ) → x < n → getD (inputsFrom call i n) x (pos 0) ≡ inputAt call (i + x)
-  unfolding inputsFrom
-  inputs-entry i zero x l = absurd (not-suc-le-zero l)
-  inputs-entry i (suc n) zero l = ap (inputAt call) (omega arith)
-  inputs-entry i (suc n) (suc x) l = inputs-entry (suc i) n x (le-of-suc-le-suc l) ∙ ap (inputAt call) (omega arith)
-
-  -- a list whose entries are the inputs is the inputs
-  pub inputs-are : (n : ℕ) (l : List ℤ) → length l ≡ n → ((x : ℕ) → x < n → getD l x (pos 0) ≡ inputAt call x) → l ≡ inputsFrom call 0 n
-  inputs-are n l e each =
-      ext-getD (pos 0) l (inputsFrom call 0 n) (e ∙ sym (inputs-length 0 n)) (λ x b. let m : x < n = omega (arith, e, b) in each x m ∙ sym (inputs-entry 0 n x m ∙ ap (inputAt call) (omega arith)))
-
-  inputs-taken : (n m i : ℕ) → n ≤ m → take n (inputsFrom call i m) ≡ inputsFrom call i n
-  unfolding inputsFrom
-  inputs-taken zero m i h = refl
-  inputs-taken (suc n) zero i h = absurd (not-suc-le-zero h)
-  inputs-taken (suc n) (suc m) i h = ap (λ (l : List ℤ). inputAt call i ∷ l) (inputs-taken n m (suc i) (le-of-suc-le-suc h))
-
-  pub inputs-counted : (n : ℕ) (l : List ℤ) → l ≡ inputsFrom call 0 65 → n ≡ countAt call 0 → take n l ≡ inputsFrom call 0 (countAt call 0)
-  inputs-counted n l e f = rw (e, f) (inputs-taken (countAt call 0) 65 0 (count-most call 0))
+  pub inputs-counted : (n : ℕ) (l : List ℤ) → l ≡ firstInputs call 65 → n ≡ countAt call 0 → take n l ≡ firstInputs call (countAt call 0)
+  inputs-counted n l e f = rw (e, f) (numbers-taken (drop 4 call) (countAt call 0) 65 0 (count-most call 0))
 
 -- the first values of a slice of sevens are such a slice
 pub sevens-taken : (n m : ℕ) → n ≤ m → take n (replicate m (pos 7)) ≡ replicate n (pos 7)
@@ -121,7 +85,7 @@ sevens-taken (suc n) (suc m) h = ap (λ (l : List ℤ). pos 7 ∷ l) (sevens-tak
 
 -- what a step on a call's inputs and on its part of a slice gives, and the line of that, are what the call gives and shows
 module _ {s next : Session} {answer : Answer (Unit {0})} (call : List ℕ) {inputs lent left : List ℤ} (rest : List ℤ) {room size : ℕ} {old new : List ℕ}
-    (is-inputs : inputs ≡ inputsFrom call 0 (countAt call 0)) (is-room : room ≡ countAt call 2) (is-lent : lent ≡ replicate room (pos 7))
+    (is-inputs : inputs ≡ firstInputs call (countAt call 0)) (is-room : room ≡ countAt call 2) (is-lent : lent ≡ replicate room (pos 7))
     (same : length left ≡ length lent)
     (is : (answer ≡ answerOf s inputs (length lent)) × (next ≡ sessionOf s inputs (length lent)) × (left ≡ sliceOf s inputs lent))
     (said : (size ≡ length (callLine answer (take room (left ++ rest)))) × (new ≡ overwritten (callLine answer (take room (left ++ rest))) old))
@@ -182,7 +146,7 @@ module _ (calls : List ℕ) where
       ∙ one-within calls (length calls) h
       ∙ ap (λ (l : List Call). callOf (take (firstSize calls) calls) ∷ l) (enough (length calls) (length (drop (firstSize calls) calls)) (drop (firstSize calls) calls) (rw length-drop (omega arith)) (omega arith))
 
-whole-rest : (left : List ℕ) (size : ℕ) → take (length left - size) (drop size left) ≡ drop size left
+pub whole-rest : (left : List ℕ) (size : ℕ) → take (length left - size) (drop size left) ≡ drop size left
 whole-rest left size = rw (← length-drop size left) (take-length (drop size left))
 
 module _ (s : Session) (left : List ℕ) (size : ℕ) (is : size ≡ firstSize left) where

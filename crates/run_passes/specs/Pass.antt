@@ -7,7 +7,8 @@ use mathlib.Core.List.{List, [], _∷_}
 use lib.Dec.{ltb}
 use lib.IntN.{ℤ, pos}
 use lib.ListN.{length, take, drop, replicate}
-use Rattle.fields.specs.Fields.{u16At, i64At}
+use Rattle.fields.specs.Fields.{u16At}
+use Rattle.numbers.specs.Numbers.{numbersFrom}
 use Rattle.report.specs.Call.{callLine}
 use Rattle.report.specs.Line.{overwritten}
 use Rattle.session.specs.declared.Session.{Session}
@@ -29,18 +30,13 @@ atMost65 n = cond (ltb n 65) n 65
 unfoldable pub countAt : List ℕ → (at : ℕ) → ℕ
 countAt call at = cond (ltb (length call) 4) 0 (atMost65 (u16At call at))
 
--- input i; 0 where the call has none
-unfoldable pub inputAt : List ℕ → (i : ℕ) → ℤ
-inputAt call i = cond (ltb (length call) (12 + 8 * i)) (pos 0) (i64At call (4 + 8 * i))
-
--- n inputs from input i on
-unfoldable pub inputsFrom : List ℕ → (i n : ℕ) → List ℤ
-inputsFrom call i zero = []
-inputsFrom call i (suc n) = inputAt call i ∷ inputsFrom call (suc i) n
+-- the first n inputs, zeros where the call has no more
+abbrev pub firstInputs : List ℕ → (n : ℕ) → List ℤ
+firstInputs call n = numbersFrom (drop 4 call) 0 n
 
 -- the call that is made: the inputs that it counts, and a slice of sevens
 abbrev pub callOf : List ℕ → Call
-callOf call = record { inputs = inputsFrom call 0 (countAt call 0); slice = replicate (countAt call 2) (pos 7) }
+callOf call = record { inputs = firstInputs call (countAt call 0); slice = replicate (countAt call 2) (pos 7) }
 
 -- what a call gives and shows: the session after it, and the line of its answer and slice in a buffer
 pub record ShownOf (s : Session) (c : Call) (next : Session) (size : ℕ) (old new : List ℕ) : Type 0 where

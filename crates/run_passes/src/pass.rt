@@ -2,11 +2,10 @@
 // last call is ignored. A count or a length over 65 is made as 65, which is one more than any node has; the inputs past it are
 // skipped.
 use crate::bytes::u16_at;
-use crate::bytes::u64_at;
-use fields::i64_of;
+use numbers::read_numbers;
 ghost use Prim.Native.Nat.{_≤_};
 ghost use mathlib.Core.Path.{_≡_};
-ghost use Rattle.run_passes.specs.Pass.{firstSize, countAt, inputsFrom};
+ghost use Rattle.run_passes.specs.Pass.{firstSize, countAt, firstInputs};
 
 // How many bytes the first call of a list has; 0 where no whole call is there.
 pub fn first_size(calls: &[u8]) -> usize
@@ -44,16 +43,11 @@ pub fn slice_length(call: &[u8]) -> usize
 
 // The first inputs that the call has, at most 65, and zeros after them.
 pub fn numbers(call: &[u8]) -> [i64; 65]
-    ensures { λ r. ⌜ r ≡ inputsFrom (now (call .entry)) 0 65 ⌝ }
+    ensures { λ r. ⌜ r ≡ firstInputs (now (call .entry)) 65 ⌝ }
 {
     let mut inputs = [0i64; 65];
-    let mut i = 0;
-    while i < 65 {
-        if call.len() < 12 + 8 * i {
-            break;
-        }
-        inputs[i] = i64_of(u64_at(call, 4 + 8 * i));
-        i += 1;
+    if 4 <= call.len() {
+        read_numbers(&call[4..], &mut inputs);
     }
     inputs
 }

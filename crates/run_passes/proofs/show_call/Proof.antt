@@ -2,7 +2,8 @@
 -- Assumes nothing.
 use mathlib.Core.Path.{sym}
 use lib.Seq.{length-take-le}
-use Rattle.run_passes.proofs.Calls.{count-most, inputs-length, inputs-counted, sevens-taken, shown-of}
+use Rattle.numbers.proofs.Rows.{numbers-length}
+use Rattle.run_passes.proofs.Calls.{count-most, inputs-counted, sevens-taken, shown-of}
 use borrow.Author.Needs.{needs}
 use Rattle.run_passes.proofs.show_call.Statement.{statement}
 use Rattle.run_passes.proofs.show_call.Tie as tie
@@ -18,7 +19,7 @@ slice-length-requires c κs = search needs
 
 array-share-prefix-inputs : tie.Need-array-share-prefix-inputs
 array-share-prefix-inputs c =
-    rw (c .before .before .numbers .ensures, inputs-length, c .before .input-count .ensures) (count-most _ 0)
+    rw (c .before .before .numbers .ensures, numbers-length, c .before .input-count .ensures) (count-most _ 0)
 
 slice-aggregate-step : tie.Need-slice-aggregate-step
 slice-aggregate-step c = sym (length-take-le _ _ (array-share-prefix-inputs (c .before)))
