@@ -3,22 +3,6 @@
  * Instants are run on the record as it stands, then on the same record begun on the file. */
 #include "target.h"
 
-enum { INSTANTS = 4, NATURAL = 128 };
-
-typedef struct {
-    const uint8_t *bytes;
-    size_t left;
-} source;
-
-static void take(source *s, void *to, size_t size)
-{
-    size_t n = size < s->left ? size : s->left;
-    memset(to, 0, size);
-    memcpy(to, s->bytes, n);
-    s->bytes += n;
-    s->left -= n;
-}
-
 /* The node in a record, read here a second time: 0 streams where trailer and length do not fit. */
 typedef struct {
     size_t streams, inputs;

@@ -1,6 +1,6 @@
 #!/usr/bin/env python3
-"""Writes the seeds of both targets: seeds.py FOLDER. From the examples, crates/check_pairs, nodes in another order and with loops, and
-sessions at the ends of 64 bits."""
+"""Writes the seeds of all targets: seeds.py FOLDER. From the examples, crates/check_pairs, nodes in another order and with loops,
+sessions at the ends of 64 bits, and a held level with its ranges."""
 import itertools
 import pathlib
 import struct
@@ -8,14 +8,28 @@ import sys
 
 ROOT = pathlib.Path(__file__).resolve().parent.parent
 sys.path.insert(0, str(ROOT / "tools"))
-from node_files import ALL, BOOL, INT, TWO_BANDS, node as node_file, rec, replaced
+from node_files import ALL, BOOL, INT, OPERANDS, TWO_BANDS, node as node_file, rec, replaced
 
 DATA = ROOT / "crates" / "check_pairs" / "data"
 RECORD_FILE = 1040
 NATURAL = 128
 ENDS = [-2**63, -2**62, -1, 0, 1, 2**62, 2**63 - 1]
-# how many operands each operator reads
-READS = [0, 0, 1, 2, 2, 2, 2, 2, 1, 2, 2, 3, 2, 2]
+LIMIT = 4_000_000_000
+# 4 is a level that changes by 1, an input, and is held between 2 and 3; 8 to 11 have the other operators of ints
+HELD = [
+    (rec(1, BOOL, k=1), 0, 0),
+    (rec(0, INT), -5, 5),
+    (rec(1, INT), 0, 0),
+    (rec(1, INT, k=100), 100, 100),
+    (rec(13, INT, 2, 7), 0, 100),
+    (rec(6, INT, 4, 1), -5, 105),
+    (rec(14, INT, 5, 3), -5, 100),
+    (rec(15, INT, 6, 2), 0, 100),
+    (rec(7, INT, 7, 1), -5, 105),
+    (rec(8, INT, 8, k=-3), -315, 15),
+    (rec(11, INT, 8, 9, 0), -315, 105),
+    (rec(12, INT, 9, 10), -315, 105),
+]
 
 
 def content(path):
@@ -25,7 +39,7 @@ def content(path):
 def with_operands(record, change):
     """The record with each operand that it reads changed."""
     op, kind, a, b, c, k, rest = struct.unpack("<BBHHHiI", record)
-    operands = [change(j, x) if j < READS[op] else x for j, x in enumerate((a, b, c))]
+    operands = [change(j, x) if j < OPERANDS[op] else x for j, x in enumerate((a, b, c))]
     return rec(op, kind, *operands, k, rest)
 
 
@@ -36,7 +50,7 @@ def orders():
         there = [with_operands(r, lambda _, x: last - x) for r in reversed(records)]
         yield f"{name}-reversed", node_file(there, last - prop)
         for i, r in enumerate(there):
-            for which in range(READS[r[0]]):
+            for which in range(OPERANDS[r[0]]):
                 wrong = with_operands(r, lambda j, x: i if j == which else x)
                 yield f"{name}-own-{i}-{which}", node_file(replaced(there, i, wrong), last - prop)
 
@@ -76,9 +90,26 @@ def at_the_ends():
             yield f"{name}-{i}", session_seed(node, 0, 0, inputs[i:i + 8])
 
 
+def ranges_seed(node, table, draws=(), numbers=NATURAL):
+    return bytes([numbers]) + check_seed(node, struct.pack(f"<{len(table) + len(draws)}q", *table, *draws))
+
+
+def tables():
+    """The held level with its ranges, with each end one off either way and at or past the limit, and the examples' tables."""
+    node = node_file([record for record, _, _ in HELD], 0)
+    table = [end for _, *ends in HELD for end in ends]
+    for numbers in (NATURAL, len(table), len(table) - 1, 0):
+        yield f"held-{numbers}", ranges_seed(node, table, [0, 1, 2, 3], numbers)
+    for i, end in enumerate(table):
+        for off in (end - 1, end + 1, LIMIT, -LIMIT, LIMIT + 1):
+            yield f"held-{i}-{off}", ranges_seed(node, replaced(table, i, off))
+    for path in sorted((ROOT / "examples").glob("*/table.bin")):
+        yield path.parent.name, bytes([NATURAL]) + check_seed(content(path.parent / "node.bin"), content(path))
+
+
 def main():
     out = pathlib.Path(sys.argv[1])
-    for target in ("fuzz_check", "fuzz_session"):
+    for target in ("fuzz_check", "fuzz_session", "fuzz_ranges"):
         (out / target).mkdir(parents=True, exist_ok=True)
     nodes = {}
     for name, node, cert in pairs():
@@ -92,8 +123,11 @@ def main():
             (1, 2, []),
         ]):
             (out / "fuzz_session" / f"{name}-{i}").write_bytes(session_seed(node, started, last, inputs))
+        (out / "fuzz_ranges" / name).write_bytes(ranges_seed(node, []))
     for name, seed in at_the_ends():
         (out / "fuzz_session" / name).write_bytes(seed)
+    for name, seed in tables():
+        (out / "fuzz_ranges" / name).write_bytes(seed)
 
 
 main()

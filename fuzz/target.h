@@ -1,4 +1,4 @@
-/* What both targets use: exactly sized blocks, little-endian numbers, and the shape of an answer by 01's table of refusals. */
+/* What the targets use: exactly sized blocks, little-endian numbers, and the shape of an answer by the tables of refusals. */
 #ifndef FUZZ_TARGET_H
 #define FUZZ_TARGET_H
 
@@ -28,6 +28,24 @@ static inline void *block(const void *from, size_t size)
     return b;
 }
 
+/* How many instants are run, and from which byte on a length is the node's own. */
+enum { INSTANTS = 4, NATURAL = 128 };
+
+/* What of the input is left. */
+typedef struct {
+    const uint8_t *bytes;
+    size_t left;
+} source;
+
+static inline void take(source *s, void *to, size_t size)
+{
+    size_t n = size < s->left ? size : s->left;
+    memset(to, 0, size);
+    memcpy(to, s->bytes, n);
+    s->bytes += n;
+    s->left -= n;
+}
+
 static inline size_t u16_at(const uint8_t *p)
 {
     return p[0] | (size_t)p[1] << 8;
@@ -43,9 +61,9 @@ static inline int place_fits(size_t number, size_t place)
 {
     if (number == 0)
         return place == CONUHAWE_NO_PLACE;
-    if (number <= 4 || (number >= 11 && number <= 14) || (number >= 30 && number <= 32))
+    if (number <= 4 || (number >= 11 && number <= 14) || (number >= 30 && number <= 32) || number == 71)
         return place == CONUHAWE_FILE;
-    if (number <= 8 || number == 23 || number == 33 || number == 34)
+    if (number <= 8 || number == 23 || number == 33 || number == 34 || number == 72)
         return place == CONUHAWE_RECORD;
     if (number == 15)
         return place == CONUHAWE_CONSTRAINT;
@@ -74,7 +92,7 @@ static inline void check_shape(conuhawe_answer a, size_t streams, size_t constra
  * records that pass 5 and 6. */
 static inline size_t lowest_endless(const uint8_t *records, size_t streams)
 {
-    static const uint8_t needed_now[14] = {0, 0, 1, 2, 2, 2, 2, 2, 1, 2, 2, 3, 2, 1};
+    static const uint8_t needed_now[16] = {0, 0, 1, 2, 2, 2, 2, 2, 1, 2, 2, 3, 2, 1, 2, 2};
     uint8_t ends[64] = {0};
     for (size_t round = 0; round < streams; round++)
         for (size_t i = 0; i < streams; i++) {

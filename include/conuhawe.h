@@ -26,7 +26,7 @@ extern "C" {
 /* Where a refusal is met: an answer's place. An answer that is not a refusal has place CONUHAWE_NO_PLACE. */
 enum {
     CONUHAWE_NO_PLACE = 0,
-    CONUHAWE_FILE = 1,       /* the file; also input count, slice length and a record that holds no node */
+    CONUHAWE_FILE = 1,       /* the file; also input count, slice length, a record that holds no node and a table of ranges */
     CONUHAWE_RECORD = 2,     /* record `index` of the node file, or the stream of that number */
     CONUHAWE_CONSTRAINT = 3, /* constraint `index` of the certificate */
     CONUHAWE_LINE = 4,       /* line `index`, counted through base and then on through step */
@@ -68,7 +68,11 @@ enum {
     CONUHAWE_INPUT_COUNT = 31,
     CONUHAWE_SLICE_LENGTH = 32,
     CONUHAWE_BOOL_INPUT = 33,
-    CONUHAWE_OUTSIDE_RANGE = 34 /* at the first such stream in the worked-out order */
+    CONUHAWE_OUTSIDE_RANGE = 34, /* at the first such stream in the worked-out order */
+
+    /* table of ranges; places: file for 71, record for 72 */
+    CONUHAWE_RANGES_TABLE = 71,    /* table length, ends reversed or too large, a bool's ends not 0 */
+    CONUHAWE_RANGE_NOT_INSIDE = 72 /* at the lowest record whose operator's results do not lie inside its range */
 };
 
 /* An answer. Of a refusal all values are 0; of an accepted answer place and index are 0. */
@@ -76,7 +80,7 @@ typedef struct conuhawe_answer {
     size_t number;   /* 0 where accepted, else the rule's number */
     size_t place;    /* CONUHAWE_FILE .. CONUHAWE_STEP, 0 where accepted */
     size_t index;    /* which record, constraint or line; of other places 0 */
-    size_t value[3]; /* node: streams, property, 0; certificate: depth, base lines, step lines; instant: 0, 0, 0 */
+    size_t value[3]; /* node: streams, property, 0; certificate: depth, base lines, step lines; instant and ranges: 0, 0, 0 */
 } conuhawe_answer;
 
 /* A session record: it is the caller's, and a call changes it only where it is accepted. A record of any bytes is taken (one that
@@ -109,6 +113,17 @@ conuhawe_answer conuhawe_begin(conuhawe_session *session, const uint8_t *node, s
  * value, is as it was. */
 conuhawe_answer conuhawe_instant(conuhawe_session *session, const int64_t *inputs, size_t input_count, int64_t *values,
                                  size_t value_count);
+
+/* Checks a table of ranges for a node file: rules 1 to 8 and 23 for the node, then 71 and 72. `table` has two numbers a stream, the
+ * least and the greatest of stream 0, then of stream 1, and on.
+ *
+ * 71: there are not two numbers a stream, a bool's are not both 0, or an int's are reversed or outside -4000000000 to 4000000000.
+ * 72: an int stream that is no input has results outside its range. Its operator's least and greatest are meant, each operand by
+ * itself anywhere in its range; for operators 11, 12 and 13 the ranges of both a and b lie inside. The index is the lowest such record.
+ *
+ * Accepted: the node is listed. In a session on it whose int inputs, those of the answered calls and the call's own, have all been
+ * inside their ranges, no instant is refused with 34 and the value of each int stream is in its range. */
+conuhawe_answer conuhawe_ranges(const uint8_t *node, size_t node_length, const int64_t *table, size_t numbers);
 
 /* How many leading bytes of a node file are its note; 0 where one of rules 1 to 8 and 23 refuses the file. Never more than its length. */
 size_t conuhawe_node_note(const uint8_t *node, size_t node_length);

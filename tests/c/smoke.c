@@ -66,8 +66,8 @@ static void check_files(file node, file cert)
     expect("check", conuhawe_check(n, node.length, c, cert.length), 0, 0, 0, 1, 12, 12);
     expect("no node", conuhawe_check(n, 0, c, cert.length), CONUHAWE_NODE_LENGTH, CONUHAWE_FILE, 0, 0, 0, 0);
     expect("no certificate", conuhawe_check(n, node.length, c, 0), CONUHAWE_CERTIFICATE_LENGTH, CONUHAWE_FILE, 0, 0, 0, 0);
-    n[16 * 3] = 14;
-    expect("operator 14", conuhawe_read(n, node.length), CONUHAWE_RECORD_SHAPE, CONUHAWE_RECORD, 3, 0, 0, 0);
+    n[16 * 3] = 16;
+    expect("operator 16", conuhawe_read(n, node.length), CONUHAWE_RECORD_SHAPE, CONUHAWE_RECORD, 3, 0, 0, 0);
     n[16 * 3] = 3;
     /* line 1, {5, 4} of stream 5's equation, becomes {!5, 4} */
     c[80 * 1 + 8] ^= 1;
@@ -192,6 +192,71 @@ static void check_orders(file node, file cert)
     free(s);
 }
 
+/* A level that rises by an input and is held at 100, as a file, and its ranges. */
+static const uint8_t held[8][16] = {
+    {1, 0, 0, 0, 0, 0, 0, 0, 1},   /* 0 is true, the property */
+    {0, 1},                        /* 1 an input */
+    {1, 1},                        /* 2 is 0 */
+    {1, 1, 0, 0, 0, 0, 0, 0, 100}, /* 3 is 100 */
+    {13, 1, 2, 0, 6},              /* 4 = 2 -> pre 6 */
+    {6, 1, 4, 0, 1},               /* 5 = 4 + 1 */
+    {14, 1, 5, 0, 3},              /* 6 the lesser of 5 and 3 */
+    {0x4C, 0x4E, 1, 0, 7, 0, 0, 0, 128},
+};
+static const int64_t ends[7][2] = {{0, 0}, {0, 5}, {0, 0}, {100, 100}, {0, 100}, {0, 105}, {0, 100}};
+
+/* A table of ranges with one number set. */
+static conuhawe_answer ranges_with(const uint8_t *node, size_t length, size_t stream, size_t end, int64_t number)
+{
+    int64_t *table = malloc(sizeof ends);
+    if (!table)
+        exit(1);
+    memcpy(table, ends, sizeof ends);
+    table[2 * stream + end] = number;
+    conuhawe_answer a = conuhawe_ranges(node, length, table, 14);
+    free(table);
+    return a;
+}
+
+static void check_ranges(void)
+{
+    const int64_t *table = &ends[0][0];
+    size_t length = sizeof held;
+    uint8_t n[sizeof held];
+    memcpy(n, held, length);
+    expect("listed", conuhawe_ranges(n, length, table, 14), 0, 0, 0, 0, 0, 0);
+    expect("a number short", conuhawe_ranges(n, length, table, 13), CONUHAWE_RANGES_TABLE, CONUHAWE_FILE, 0, 0, 0, 0);
+    expect("no table", conuhawe_ranges(n, length, table, 0), CONUHAWE_RANGES_TABLE, CONUHAWE_FILE, 0, 0, 0, 0);
+    expect("a bool's end", ranges_with(n, length, 0, 1, 1), CONUHAWE_RANGES_TABLE, CONUHAWE_FILE, 0, 0, 0, 0);
+    expect("reversed", ranges_with(n, length, 1, 0, 6), CONUHAWE_RANGES_TABLE, CONUHAWE_FILE, 0, 0, 0, 0);
+    expect("too large", ranges_with(n, length, 5, 1, 4000000001), CONUHAWE_RANGES_TABLE, CONUHAWE_FILE, 0, 0, 0, 0);
+    expect("at the limit", ranges_with(n, length, 6, 0, -4000000000), CONUHAWE_RANGE_NOT_INSIDE, CONUHAWE_RECORD, 4, 0, 0, 0);
+    expect("narrow sum", ranges_with(n, length, 5, 1, 104), CONUHAWE_RANGE_NOT_INSIDE, CONUHAWE_RECORD, 5, 0, 0, 0);
+    expect("narrow level", ranges_with(n, length, 6, 0, 1), CONUHAWE_RANGE_NOT_INSIDE, CONUHAWE_RECORD, 6, 0, 0, 0);
+    n[96] = 15;
+    expect("the greater", conuhawe_ranges(n, length, table, 14), CONUHAWE_RANGE_NOT_INSIDE, CONUHAWE_RECORD, 6, 0, 0, 0);
+    n[96] = 16;
+    expect("the node's own", conuhawe_ranges(n, length, table, 0), CONUHAWE_RECORD_SHAPE, CONUHAWE_RECORD, 6, 0, 0, 0);
+    expect("no node at all", conuhawe_ranges(n, 0, table, 14), CONUHAWE_NODE_LENGTH, CONUHAWE_FILE, 0, 0, 0, 0);
+}
+
+/* The level climbs to 100 and stays. */
+static void check_held(void)
+{
+    conuhawe_session *s = calloc(1, sizeof *s);
+    if (!s)
+        exit(1);
+    int64_t input = 5, values[7];
+    expect("begin held", conuhawe_begin(s, &held[0][0], sizeof held), 0, 0, 0, 7, 0, 0);
+    for (int64_t t = 0; t < 40; t++) {
+        int64_t before = t < 20 ? 5 * t : 100, after = t < 20 ? before + 5 : 100;
+        const int64_t wanted[7] = {1, 5, 0, 100, before, before + 5, after};
+        expect("instant held", conuhawe_instant(s, &input, 1, values, 7), 0, 0, 0, 0, 0, 0);
+        expect_true("values held", memcmp(values, wanted, sizeof values) == 0);
+    }
+    free(s);
+}
+
 int main(int argc, char **argv)
 {
     if (argc != 3) {
@@ -203,6 +268,8 @@ int main(int argc, char **argv)
     check_notes(node, cert);
     check_session(node);
     check_orders(node, cert);
+    check_ranges();
+    check_held();
     printf("%s\n", failures ? "failed" : "ok");
     return failures != 0;
 }

@@ -37,7 +37,8 @@ impl fmt::Display for Place {
 /// A refusal: the number of the first rule that is broken, and where.
 ///
 /// 1 to 8 and 23 are of a node file, 11 to 22 of a certificate, 30 to 34 of
-/// an instant's call. It prints as `refused 19 line 4`.
+/// an instant's call, 71 and 72 of a table of ranges. A refusal prints as
+/// `refused 19 line 4`.
 #[derive(Clone, Copy, Debug, PartialEq, Eq, Hash)]
 pub struct Refusal {
     /// The rule's number.
@@ -85,7 +86,7 @@ impl fmt::Display for Accepted {
 
 impl Answer {
     /// The three values of an accepted answer, or the refusal.
-    pub(crate) fn values(self) -> Result<[usize; 3], Refusal> {
+    fn values(self) -> Result<[usize; 3], Refusal> {
         let place = match self.place {
             0 => return Ok(self.values),
             1 => Place::File,
@@ -100,6 +101,11 @@ impl Answer {
             number: self.number,
             place,
         })
+    }
+
+    /// An answer that carries nothing.
+    pub(crate) fn done(self) -> Result<(), Refusal> {
+        self.values().map(|_| ())
     }
 
     pub(crate) fn node(self) -> Result<Node, Refusal> {

@@ -41,6 +41,26 @@ pub fn check(node: &[u8], certificate: &[u8]) -> Result<Accepted, Refusal> {
     .certificate()
 }
 
+/// Checks a table of ranges for a node file: two numbers a stream, the least
+/// and the greatest of stream 0, then of stream 1, and on; both 0 for a bool.
+///
+/// Where it is accepted, the node is listed. In a [`Session`](crate::Session)
+/// on it whose int inputs, those of the answered calls and the call's own, have
+/// all been inside their ranges, no instant is refused with 34 and the value of
+/// each int stream is in its range.
+///
+/// # Errors
+///
+/// The first rule that is broken: of 1 to 8 and 23 for the node, then 71 and
+/// 72. 71 is a table of another length, with a bool's ends not 0, or with an
+/// int's reversed or outside ±4,000,000,000. 72 names the lowest record, of an
+/// int stream that is no input, whose operator's results, each operand by
+/// itself anywhere in its range, do not lie inside its range.
+pub fn ranges(node: &[u8], table: &[i64]) -> Result<(), Refusal> {
+    // SAFETY: as above.
+    unsafe { sys::conuhawe_ranges(node.as_ptr(), node.len(), table.as_ptr(), table.len()) }.done()
+}
+
 /// The note of a node file: the bytes before its first record. Empty where
 /// one of rules 1 to 8 and 23 refuses the file.
 pub fn node_note(node: &[u8]) -> &[u8] {

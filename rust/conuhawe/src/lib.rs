@@ -30,5 +30,5 @@ mod session;
 mod sys;
 
 pub use answer::{Accepted, Node, Place, Refusal};
-pub use files::{certificate_note, check, node_note, read};
+pub use files::{certificate_note, check, node_note, ranges, read};
 pub use session::Session;

@@ -57,8 +57,7 @@ impl Session {
                 values.len(),
             )
         }
-        .values()
-        .map(|_| ())
+        .done()
     }
 
     /// Whether an instant was answered.

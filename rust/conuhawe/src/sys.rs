@@ -37,6 +37,12 @@ extern "C" {
         values: *mut i64,
         value_count: usize,
     ) -> Answer;
+    pub(crate) fn conuhawe_ranges(
+        node: *const u8,
+        length: usize,
+        table: *const i64,
+        numbers: usize,
+    ) -> Answer;
     pub(crate) fn conuhawe_node_note(node: *const u8, length: usize) -> usize;
     pub(crate) fn conuhawe_certificate_note(certificate: *const u8, length: usize) -> usize;
 }

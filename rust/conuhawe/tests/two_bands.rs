@@ -39,7 +39,7 @@ fn empty_files_are_refused_by_their_length() {
 #[test]
 fn a_refusal_names_the_record() {
     let (mut node, certificate) = two_bands();
-    node[16 * 3] = 14;
+    node[16 * 3] = 16;
     let expected = Refusal {
         number: 5,
         place: Place::Record(3),

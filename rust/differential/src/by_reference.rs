@@ -1,7 +1,7 @@
 //! `rust/reference` as a checker.
 
 use crate::checker::{Checker, Record, Refusal, Shape, Verdict};
-use reference::{certificate, node, session};
+use reference::{certificate, node, ranges, session};
 
 /// The second implementation, written from 01 alone.
 #[derive(Clone, Copy, Debug, Default)]
@@ -21,6 +21,10 @@ impl Checker for Reference {
             streams: node.count(),
             property: node.property().into(),
         })
+    }
+
+    fn ranges(&self, node: &[u8], table: &[i64]) -> Result<(), Refusal> {
+        ranges::check(node, table)
     }
 
     fn node_note(&self, file: &[u8]) -> usize {

@@ -108,6 +108,7 @@ fn proved(random: &mut Random) -> (NodeFile, CertificateFile, Expected) {
             size: random.of([3, 6, 10, 16, 64]),
             ints: 5,
             inputs: random.of([0, 1, 2]),
+            extremes: true,
             large: random.once_in(4),
             truth: false,
             reordered: random.once_in(3),

@@ -12,7 +12,8 @@ pub struct Shape {
     pub property: usize,
 }
 
-/// An implementation of 01: reader, session and checker.
+/// An implementation of 01 and 02: reader, session, checker and the check of
+/// ranges.
 ///
 /// The session record is lent as 1,040 bytes of node file, a length, whether
 /// an instant was answered, and 64 last values; see [`record_bytes`].
@@ -25,6 +26,9 @@ pub trait Checker {
 
     /// The verdict on a node file.
     fn read(&self, node: &[u8]) -> Result<Shape, Refusal>;
+
+    /// The answer on a node file and a table of ranges.
+    fn ranges(&self, node: &[u8], table: &[i64]) -> Result<(), Refusal>;
 
     /// The length of a node file's note.
     fn node_note(&self, node: &[u8]) -> usize;

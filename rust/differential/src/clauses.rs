@@ -27,6 +27,8 @@ pub fn clauses(records: &[Record], part: Part, p: u16, q: u8) -> Vec<Vec<Item>> 
         }),
         (_, BOOL) => over_bools(record, p, q),
         (11, _) => int_choice(record, p, q),
+        (14, _) => extreme(record, p, q, |x, y| less(x, y, 0)),
+        (15, _) => extreme(record, p, q, |x, y| less(y, x, 0)),
         _ => equality(record, p, q),
     }
 }
@@ -106,6 +108,21 @@ fn int_choice(record: &Record, p: u16, q: u8) -> Vec<Vec<Item>> {
         with(opp(c), less(a, s, 0)),
         with(c, less(s, b, 0)),
         with(c, less(b, s, 0)),
+    ]
+}
+
+/// 14: {s ≤ a} {s ≤ b} {a ≤ s, b ≤ s}. 15: the same the other way round.
+fn extreme(
+    record: &Record,
+    p: u16,
+    q: u8,
+    ordered: impl Fn(Variable, Variable) -> Item,
+) -> Vec<Vec<Item>> {
+    let (s, a, b) = ((q, p), (q, record.a), (q, record.b));
+    vec![
+        vec![ordered(s, a)],
+        vec![ordered(s, b)],
+        vec![ordered(a, s), ordered(b, s)],
     ]
 }
 

@@ -72,6 +72,49 @@ pub fn pair(checkers: &[&dyn Checker], origin: Origin, node: &[u8], certificate:
     said.verdict
 }
 
+/// Compares all on a table of ranges and gives the first one's answer. The
+/// node's own refusals come first.
+pub fn ranges(
+    checkers: &[&dyn Checker],
+    origin: Origin,
+    node: &[u8],
+    table: &[i64],
+) -> Result<(), Refusal> {
+    let said = |checker: &dyn Checker| (checker.read(node).err(), checker.ranges(node, table));
+    let first = said(checkers[0]);
+    let given = number_bytes(table);
+    let bytes = [("node", node), ("table", &given[..])];
+    let coherent = match first {
+        (Some(refusal), answer) => answer == Err(refusal),
+        (None, answer) => {
+            answer.map_or_else(|refusal| matches!(refusal.number, 71 | 72), |()| true)
+        }
+    };
+    if !coherent {
+        differ(
+            origin,
+            checkers[0],
+            &first,
+            checkers[0],
+            &"incoherent",
+            &bytes,
+        );
+    }
+    for other in &checkers[1..] {
+        let theirs = said(*other);
+        if theirs != first {
+            differ(origin, checkers[0], &first, *other, &theirs, &bytes);
+        }
+    }
+    first.1
+}
+
+/// Numbers as a file has them.
+fn number_bytes(numbers: &[i64]) -> Vec<u8> {
+    let bytes = numbers.iter().flat_map(|number| number.to_le_bytes());
+    bytes.collect()
+}
+
 /// What a session's call leaves: answer, record and slice.
 #[derive(PartialEq, Eq)]
 struct Left {
@@ -159,10 +202,7 @@ pub fn instant(
     values: &mut [i64],
 ) -> Result<(), Refusal> {
     let before = record_bytes(record);
-    let given: Vec<u8> = inputs
-        .iter()
-        .flat_map(|input| input.to_le_bytes())
-        .collect();
+    let given = number_bytes(inputs);
     let bytes = [("record", &before[..]), ("inputs", &given[..])];
     call(
         checkers,

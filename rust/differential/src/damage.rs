@@ -158,7 +158,7 @@ fn distance(file: &[u8], at: usize, block: i64) -> Field {
 fn record(file: &[u8], at: usize, own: usize, n: usize) -> Vec<Field> {
     let (own, n) = (own as i64, n as i64);
     let mut fields = vec![
-        Field::new(at, 1, (0..=14).chain([255]).collect::<Vec<_>>()),
+        Field::new(at, 1, (0..=16).chain([255]).collect::<Vec<_>>()),
         Field::new(at + 1, 1, [0, 1, 2, 255]),
     ];
     let operands = [0, own - 1, own, own + 1, n - 1, n, 63, 64, 256, 65_535];

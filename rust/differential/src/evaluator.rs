@@ -153,6 +153,8 @@ impl Instant<'_> {
             (9, _) => truth(at(0)? <= at(1)?),
             (11, _) if at(2)? == 1 => at(0),
             (11, _) => at(1),
+            (14, _) => Some(at(0)?.min(at(1)?)),
+            (15, _) => Some(at(0)?.max(at(1)?)),
             (_, false) => at(0),
             (12, true) => at(1),
             (_, true) => Some(i128::from(record.last[row.operand(1)])),

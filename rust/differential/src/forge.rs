@@ -1,6 +1,7 @@
-//! 01's false turns, a cut below the floor and a bound or a coefficient that is
-//! not multiplied with the other: whole arguments for properties that fail,
-//! each right but for one turn, and single lines that take such a turn.
+//! 01's false turns, a cut below the floor, a bound or a coefficient that is
+//! not multiplied with the other and a lesser taken for a greater: whole
+//! arguments for properties that fail, each right but for one turn, and single
+//! lines that take such a turn.
 
 use crate::clauses::{clauses, Item};
 use crate::draft::Draft;
@@ -16,15 +17,16 @@ use reference::certificate::Part;
 /// A node, a forged certificate for it, and the number that refuses it.
 pub type Forgery = (NodeFile, CertificateFile, u8);
 
-/// One of the six turns at some depth, with other right lines around it.
+/// One of the seven turns at some depth, with other right lines around it.
 pub fn forgery(random: &mut Random) -> Forgery {
     let k = random.within(1, 8) as u8;
-    let (node, turn, number): (_, Turn, u8) = match random.below(6) {
+    let (node, turn, number): (_, Turn, u8) = match random.below(7) {
         0 => (first_instant_node(random, k), first_instant, 17),
         1 => (never_equal_node(), never_equal, 20),
         2 => (input_node(), both_signs, 19),
         3 => (multiple_node(random), below_the_floor, 22),
         4 => (one_less_node(random), not_alike, 17),
+        5 => (one_sided_node(random), as_greater, 17),
         _ => (delayed_node(k), base_line_cited, 19),
     };
     let mut draft = Draft::drawn(random, &node, k);
@@ -245,34 +247,90 @@ fn not_alike(draft: &mut Draft) -> Option<u16> {
     None
 }
 
+/// 0 and 1 are int inputs, 2 is the lesser or the greater of them, and 3 says
+/// that 0 is at most the lesser, or the greater at most 0.
+fn one_sided_node(random: &mut Random) -> NodeFile {
+    let (record, property) = match random.below(2) {
+        0 => (Record::lesser(0, 1), Record::at_most(0, 2)),
+        _ => (Record::greater(0, 1), Record::at_most(2, 0)),
+    };
+    let records = vec![Record::input(INT), Record::input(INT), record, property];
+    NodeFile::new(records, 3)
+}
+
+/// The first clause of 14 taken for that of 15, or the other way round: it
+/// says what the property says.
+fn as_greater(draft: &mut Draft) -> Option<u16> {
+    let (offsets, q) = match draft.part() {
+        Part::Base => (0..draft.depth, 0),
+        Part::Step => (draft.depth..draft.depth + 1, draft.depth),
+    };
+    let mut left = draft.property(q)?;
+    for q in offsets {
+        let forged = mirrored(draft, 2, q, 0)?;
+        let (ordered, either) = (draft.clause(forged)[0], draft.equation(3, q, 1)?);
+        let reversed = draft.clause(either)[1];
+        let clash = draft.arithmetic(&[ordered, reversed].map(|l| (opp(l), 1)))?;
+        let clash = draft.strike(clash, opp(ordered), forged)?;
+        left = draft.strike(left, opp(lit(3, q.into())), either)?;
+        left = draft.strike(left, reversed, clash)?;
+    }
+    None
+}
+
+/// Adds clause r of stream p as if 14 were 15, or 15 were 14.
+fn mirrored(draft: &mut Draft, p: u16, q: u8, r: usize) -> Option<u16> {
+    let mut records = draft.node.records.clone();
+    records[usize::from(p)].operator ^= 1;
+    let listed = clauses(&records, draft.part(), p, q);
+    written(draft, p, q, r, &listed[r])
+}
+
+/// Adds an equation line with these items, right or wrong.
+fn written(draft: &mut Draft, p: u16, q: u8, r: usize, items: &[Item]) -> Option<u16> {
+    let mut literals = Vec::new();
+    for item in items {
+        literals.push(match item {
+            Item::Literal(literal) => *literal,
+            Item::AtMost(constraint) => draft.literal_on(*constraint)?,
+        });
+    }
+    draft.add(Line::equation(p, q.into(), r as u16, &literals))
+}
+
 /// Adds a line that takes a false turn, if the draft has what it needs.
 pub fn forged_line(random: &mut Random, draft: &mut Draft) -> Option<u16> {
-    match random.below(7) {
+    match random.below(8) {
         0 => as_first_instant(random, draft),
         1 => as_zero(random, draft),
         2 => as_both_signs(random, draft),
         3 => as_base_line(random, draft),
         4 => miscuts::miscut(random, draft).map(|(line, _)| line),
         5 => misfactors::misfactor(random, draft),
+        6 => as_mirrored(random, draft),
         _ => as_other_sign(random, draft),
     }
 }
 
 /// Clause r of an operator 12 or 13 at offset 0, as the base has it.
 fn as_first_instant(random: &mut Random, draft: &mut Draft) -> Option<u16> {
-    let numbered = (0u16..).zip(&draft.node.records);
-    let arrows = numbered.filter(|(_, record)| record.operator >= 12);
-    let arrows: Vec<u16> = arrows.map(|(p, _)| p).collect();
-    let (p, r) = (random.pick(&arrows)?, random.below(2));
+    let (p, r) = (one_of(random, draft, [12, 13])?, random.below(2));
     let listed = clauses(&draft.node.records, Part::Base, p, 0);
-    let mut literals = Vec::new();
-    for item in &listed[r] {
-        literals.push(match item {
-            Item::Literal(literal) => *literal,
-            Item::AtMost(constraint) => draft.literal_on(*constraint)?,
-        });
-    }
-    draft.add(Line::equation(p, 0, r as u16, &literals))
+    written(draft, p, 0, r, &listed[r])
+}
+
+/// A clause of an operator 14 as if it were 15, or of a 15 as if it were 14.
+fn as_mirrored(random: &mut Random, draft: &mut Draft) -> Option<u16> {
+    let p = one_of(random, draft, [14, 15])?;
+    let q = random.within(0, draft.last_offset().into()) as u8;
+    mirrored(draft, p, q, random.below(3))
+}
+
+/// A stream of one of two operators, if there is one.
+fn one_of(random: &mut Random, draft: &Draft, operators: [u8; 2]) -> Option<u16> {
+    let numbered = (0u16..).zip(&draft.node.records);
+    let fitting = numbered.filter(|(_, record)| operators.contains(&record.operator));
+    random.pick(&fitting.map(|(p, _)| p).collect::<Vec<_>>())
 }
 
 /// A line of kind 4 whose bound is 0.

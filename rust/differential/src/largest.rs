@@ -1,12 +1,13 @@
 //! Certificates of a given size and kind, accepted, for measuring and for the
-//! largest files.
+//! largest files, and nodes of 64 streams.
 
 use crate::draft::{Draft, MAX_CONSTRAINTS};
 use crate::grow::{grow, Mix};
+use crate::listed::{self, Listed};
 use crate::nodes::{self, Taste};
 use crate::prove::refute;
 use crate::random::Random;
-use reference::build::{CertificateFile, NodeFile};
+use reference::build::{CertificateFile, NodeFile, Record, BOOL, INT};
 
 /// A kind of certificate, by what most of its lines are.
 #[derive(Clone, Copy, Debug)]
@@ -53,17 +54,42 @@ impl Kind {
     }
 }
 
-/// A node of 64 streams, in record order, whose property is the constant true.
-pub fn node(random: &mut Random, ints: usize) -> NodeFile {
+/// A node of 64 streams, in record order, whose property is the constant true,
+/// with lessers and greaters or without.
+pub fn node(random: &mut Random, ints: usize, extremes: bool) -> NodeFile {
     let taste = Taste {
         size: 64,
         ints,
         inputs: 3,
+        extremes,
         large: false,
         truth: true,
         reordered: false,
     };
     nodes::node(random, taste)
+}
+
+/// A listed node of 64 streams.
+pub fn listed(random: &mut Random) -> Listed {
+    loop {
+        let drawn = listed::listed(random, 64);
+        if drawn.node.records.len() == 64 {
+            return drawn;
+        }
+    }
+}
+
+/// A node of 64 streams, in record order: the constant true, some int inputs,
+/// and lessers and greaters of any two before.
+pub fn extremes(random: &mut Random) -> NodeFile {
+    let mut records = vec![Record::constant(BOOL, 1)];
+    records.resize(8, Record::input(INT));
+    for own in 8..64 {
+        let [a, b] = [0; 2].map(|_| random.within(1, own - 1) as u16);
+        let of = random.of([Record::lesser, Record::greater]);
+        records.push(of(a, b));
+    }
+    NodeFile::new(records, 0)
 }
 
 /// An accepted certificate of at most `lines` lines, or as near to it as the

@@ -9,8 +9,9 @@
 //! * [`nodes`], [`draft`], [`grow`], [`cuts`], [`factors`], [`prove`],
 //!   [`forge`], [`pool`] and [`passes`] generate; [`reorder`] puts records into
 //!   another order, or makes them lead back to themselves; [`damage`],
-//!   [`miscuts`] and [`misfactors`] spoil; [`cases`] mixes them. [`largest`]
-//!   and [`alike`] generate what is measured.
+//!   [`miscuts`] and [`misfactors`] spoil; [`cases`] mixes them. [`listed`]
+//!   generates nodes with tables of [`ranges`], [`misranges`] spoils the
+//!   tables. [`largest`] and [`alike`] generate what is measured.
 //! * [`compare`] compares, and prints seed and bytes where two differ;
 //!   [`tally`] counts what was met.
 //!
@@ -19,6 +20,8 @@
 //! ```text
 //! DIFFERENTIAL_PAIRS=5000000 DIFFERENTIAL_INSTANTS=5000000 DIFFERENTIAL_SEED=2 \
 //!     cargo test --offline --test differential -- --nocapture --test-threads=1
+//! DIFFERENTIAL_TABLES=5000000 DIFFERENTIAL_SEED=2 \
+//!     cargo test --offline --test ranges -- --nocapture --test-threads=1
 //! ```
 //!
 //! The same seed draws the same cases; a difference names seed and case and
@@ -43,8 +46,10 @@ pub mod forge;
 pub mod grow;
 pub mod largest;
 pub mod linear;
+pub mod listed;
 pub mod miscuts;
 pub mod misfactors;
+pub mod misranges;
 pub mod nodes;
 pub mod passes;
 pub mod pool;
@@ -52,6 +57,7 @@ pub mod prove;
 #[cfg(feature = "proved")]
 pub mod proved;
 pub mod random;
+pub mod ranges;
 pub mod reorder;
 pub mod tally;
 pub mod twin;

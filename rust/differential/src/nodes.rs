@@ -15,6 +15,8 @@ pub struct Taste {
     pub ints: usize,
     /// How often an input is kept when drawn, in ten.
     pub inputs: usize,
+    /// Whether lessers and greaters are drawn.
+    pub extremes: bool,
     /// Whether constants at the limits are drawn.
     pub large: bool,
     /// Whether the first record drawn is true; it is then the property.
@@ -37,6 +39,7 @@ impl Taste {
             size,
             ints: random.of([2, 5, 5, 8]),
             inputs: random.of([1, 3, 10]),
+            extremes: true,
             large: random.once_in(3),
             truth: random.once_in(2),
             reordered: random.once_in(3),
@@ -117,6 +120,7 @@ fn attempt(
     let same = if kind == BOOL { bools } else { ints };
     let operator = match kind {
         BOOL => random.of([0, 1, 2, 3, 4, 5, 9, 10, 11, 12, 13]),
+        _ if taste.extremes => random.of([0, 1, 6, 7, 8, 11, 12, 13, 14, 15]),
         _ => random.of([0, 1, 6, 7, 8, 11, 12, 13]),
     };
     match operator {
@@ -126,7 +130,7 @@ fn attempt(
         1 => Some(Record::constant(INT, constant(random, taste))),
         2 => Some(Record::not(random.pick(bools)?)),
         3..=5 => over(random, operator, BOOL, bools),
-        6 | 7 => over(random, operator, INT, ints),
+        6 | 7 | 14 | 15 => over(random, operator, INT, ints),
         8 => Some(Record::multiple(
             constant(random, taste),
             random.pick(ints)?,

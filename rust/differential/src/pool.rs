@@ -23,6 +23,7 @@ pub fn pool(random: &mut Random) -> Vec<Certified> {
             size: random.within(3, 8),
             ints: 5,
             inputs: 3,
+            extremes: true,
             large: false,
             truth: false,
             reordered: random.once_in(3),
@@ -64,6 +65,9 @@ fn families(random: &mut Random) -> Vec<(NodeFile, Vec<u8>)> {
         (absolute(), vec![1, 2, 4]),
         (successor(), vec![1, 2, 8]),
         (mirror(), vec![1, 5, 8]),
+        (held(k, Record::lesser, 1), vec![1, 2]),
+        (held(-k, Record::greater, -1), vec![1, 2]),
+        (between(), vec![1, 2, 8]),
     ];
     for depth in 1..=8 {
         all.push((ring(depth), vec![depth]));
@@ -154,6 +158,39 @@ fn successor() -> NodeFile {
 /// Everything is the same as itself.
 fn mirror() -> NodeFile {
     NodeFile::new(vec![Record::input(BOOL), Record::same(0, 0)], 1)
+}
+
+/// A counter by single steps from 0 that an operator holds at k, and 6 says
+/// that it does not pass k.
+fn held(k: i32, by: fn(u16, u16) -> Record, step: i32) -> NodeFile {
+    let (level, limit) = (3, 2);
+    let [a, b] = if step > 0 {
+        [level, limit]
+    } else {
+        [limit, level]
+    };
+    let records = vec![
+        Record::constant(INT, 0),
+        Record::constant(INT, step),
+        Record::constant(INT, k),
+        Record::arrow_pre(INT, 0, 5),
+        Record::sum(3, 1),
+        by(4, 2),
+        Record::at_most(a, b),
+    ];
+    NodeFile::new(records, 6)
+}
+
+/// The lesser of two numbers is at most the greater.
+fn between() -> NodeFile {
+    let records = vec![
+        Record::input(INT),
+        Record::input(INT),
+        Record::lesser(0, 1),
+        Record::greater(1, 0),
+        Record::at_most(2, 3),
+    ];
+    NodeFile::new(records, 4)
 }
 
 /// A ring of delays, false to begin with: the first stays false.

@@ -74,6 +74,8 @@ impl Known {
             12 | 13 if q == 0 => a.filter(|_| part == Part::Base),
             12 => b,
             13 => self.at((q - 1, record.b)),
+            14 => Some(a?.min(b?)),
+            15 => Some(a?.max(b?)),
             _ => None,
         }
     }
@@ -87,12 +89,27 @@ impl Known {
             }
             Item::AtMost(constraint) => {
                 let sum = Linear::of(constraint);
-                let terms = sum.used().map(|(variable, c)| Some(c * self.at(variable)?));
-                terms
-                    .sum::<Option<i128>>()
-                    .is_some_and(|left| left > sum.bound)
+                self.left(&sum).is_some_and(|left| left > sum.bound)
             }
         }
+    }
+
+    /// Whether an item of a clause, times the sign, bounds a stream by its
+    /// value or closer: not so "lesser of a and b is at most a" where b is the
+    /// lesser.
+    fn bounds(&self, item: &Item, own: Variable, sign: i128) -> bool {
+        let Item::AtMost(constraint) = item else {
+            return false;
+        };
+        let sum = Linear::of(constraint);
+        let is_own = sum.terms.get(&own) == Some(&sign);
+        is_own && self.left(&sum).is_some_and(|left| left >= sum.bound)
+    }
+
+    /// What the terms add up to.
+    fn left(&self, sum: &Linear) -> Option<i128> {
+        let terms = sum.used().map(|(variable, c)| Some(c * self.at(variable)?));
+        terms.sum()
     }
 }
 
@@ -257,33 +274,44 @@ impl Prover<'_, '_> {
     }
 
     /// An int stream's bound: a clause whose bool literals fail and whose
-    /// constraint bounds the stream.
-    fn bounded(&mut self, unit: Unit, (q, p): Variable, sign: i128) -> Option<u16> {
+    /// constraints, one or two, bound the stream.
+    fn bounded(&mut self, unit: Unit, own: Variable, sign: i128) -> Option<u16> {
+        let (q, p) = own;
         let listed = clauses(&self.draft.node.records, self.draft.part(), p, q);
-        let bounding = |item: &Item| match item {
-            Item::Literal(_) => None,
-            Item::AtMost(constraint) => {
-                let own = Linear::of(constraint).terms.get(&(q, p)).copied();
-                (own == Some(sign)).then_some(*constraint)
-            }
-        };
         let fits = |c: &Vec<Item>| {
-            c.iter().all(|i| {
-                bounding(i).is_some() || matches!(i, Item::Literal(_)) && self.known.fails(i)
+            c.iter().all(|i| match i {
+                Item::Literal(_) => self.known.fails(i),
+                Item::AtMost(_) => self.known.bounds(i, own, sign),
             })
         };
         let r = listed.iter().position(fits)?;
-        let constraint = listed[r].iter().find_map(bounding)?;
-        let line = self.draft.equation(p, q, r)?;
-        let bools = listed[r]
-            .iter()
-            .filter(|item| matches!(item, Item::Literal(_)));
-        let line = self.without(line, bools)?;
-        let (literal, wanted) = (self.draft.literal_on(constraint)?, self.literal(unit)?);
-        if literal == wanted {
+        let mut line = self.draft.equation(p, q, r)?;
+        let mut constraints = Vec::new();
+        for item in &listed[r] {
+            match item {
+                Item::Literal(_) => line = self.without(line, [item].into_iter())?,
+                Item::AtMost(constraint) => constraints.push(constraint),
+            }
+        }
+        for constraint in constraints {
+            line = self.with_bound(line, unit, own, constraint)?;
+        }
+        Some(line)
+    }
+
+    /// The line with a stream's bound for a constraint that it follows from.
+    fn with_bound(
+        &mut self,
+        line: u16,
+        unit: Unit,
+        own: Variable,
+        constraint: &Constraint,
+    ) -> Option<u16> {
+        let (literal, wanted) = (self.draft.literal_on(*constraint)?, self.literal(unit)?);
+        if literal == wanted || !self.draft.clause(line).contains(&literal) {
             return Some(line);
         }
-        let units = self.supports(&constraint, Some((q, p)));
+        let units = self.supports(constraint, Some(own));
         let clash = self.combine(vec![(wanted, 1), (opp(literal), 1)], &units)?;
         let line = self.draft.strike(line, literal, clash)?;
         self.discharge(line, &units)

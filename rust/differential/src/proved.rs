@@ -88,6 +88,10 @@ impl Checker for Proved {
         })
     }
 
+    fn ranges(&self, node: &[u8], table: &[i64]) -> Result<(), Refusal> {
+        conuhawe::ranges(node, table).map_err(refusal)
+    }
+
     fn node_note(&self, node: &[u8]) -> usize {
         conuhawe::node_note(node).len()
     }

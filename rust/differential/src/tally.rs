@@ -18,6 +18,8 @@ pub struct Tally {
     pub depths: BTreeMap<u8, u64>,
     /// Lines that passed, of accepted and refused certificates, by kind.
     pub kinds: BTreeMap<u8, u64>,
+    /// Equation lines that passed, by the operator of their stream.
+    pub operators: BTreeMap<u8, u64>,
     /// Accepted certificates with an equation line whose constraint is
     /// multiplied through, by a factor of at least 2.
     pub multiplied: u64,
@@ -35,7 +37,7 @@ pub struct Tally {
 impl Tally {
     /// Counts a verdict on a node and a certificate.
     pub fn verdict(&mut self, verdict: Verdict, node: &[u8], certificate: &[u8]) {
-        self.passed(verdict, certificate);
+        self.passed(verdict, node, certificate);
         if let Ok(accepted) = verdict {
             self.reordered += u64::from(is_reordered(&records(node)));
             *self.depths.entry(accepted.depth).or_default() += 1;
@@ -54,14 +56,19 @@ impl Tally {
     }
 
     /// Counts the lines before the one that is refused.
-    fn passed(&mut self, verdict: Verdict, certificate: &[u8]) {
+    fn passed(&mut self, verdict: Verdict, node: &[u8], certificate: &[u8]) {
         let count = match verdict.map_err(|refusal| refusal.place) {
             Ok(_) | Err(Place::Base | Place::Step) => usize::MAX,
             Err(Place::Line(line)) => line,
             Err(_) => return,
         };
+        let records = records(node);
         for (_, line) in lines(certificate).take(count) {
             *self.kinds.entry(line[0]).or_default() += 1;
+            if line[0] == 1 {
+                let operator = records[usize::from(line[2])].operator;
+                *self.operators.entry(operator).or_default() += 1;
+            }
         }
     }
 
@@ -94,6 +101,11 @@ impl Tally {
         self.kinds.get(&kind).copied().unwrap_or(0)
     }
 
+    /// How many equation lines of this operator passed.
+    pub fn of_operator(&self, operator: u8) -> u64 {
+        self.operators.get(&operator).copied().unwrap_or(0)
+    }
+
     /// How many accepted certificates had this depth.
     pub fn of_depth(&self, depth: u8) -> u64 {
         self.depths.get(&depth).copied().unwrap_or(0)
@@ -114,6 +126,7 @@ impl fmt::Display for Tally {
             write!(f, "; accepted by depth {:?}", self.depths)?;
             write!(f, ", {} with a factor", self.multiplied)?;
             write!(f, ", lines passed by kind {:?}", self.kinds)?;
+            write!(f, ", equations by operator {:?}", self.operators)?;
             write!(
                 f,
                 ", longest {longest} lines, deepest refused line {deepest}"

@@ -44,6 +44,13 @@ impl<C: Checker> Checker for Twin<C> {
         }
     }
 
+    fn ranges(&self, node: &[u8], table: &[i64]) -> Result<(), Refusal> {
+        match self.0.ranges(node, table) {
+            Err(refusal) if is_of_length(&refusal) => Err(refusal),
+            _ => self.0.ranges(&moved(node).0, &[&[-1], table].concat()[1..]),
+        }
+    }
+
     fn node_note(&self, node: &[u8]) -> usize {
         let (moved, note) = moved(node);
         match self.0.read(node) {

@@ -130,7 +130,7 @@ fn refused(origin: Origin, node: &NodeFile, lowest: u16) {
 }
 
 /// The operands needed now: of each operator how many.
-const NEEDED: [(u8, usize); 12] = [
+const NEEDED: [(u8, usize); 14] = [
     (2, 1),
     (3, 2),
     (4, 2),
@@ -143,6 +143,8 @@ const NEEDED: [(u8, usize); 12] = [
     (11, 3),
     (12, 2),
     (13, 1),
+    (14, 2),
+    (15, 2),
 ];
 
 /// Loops through every operand, of every length, and records that wait for
@@ -175,7 +177,7 @@ fn loops() {
             assert!(slots.get(&slot) >= Some(&50), "{slot:?}: {slots:?}");
         }
     }
-    assert_eq!(slots.len(), 22);
+    assert_eq!(slots.len(), 26);
     for length in 1..=6 {
         assert!(lengths.get(&length) >= Some(&50), "{length}: {lengths:?}");
     }

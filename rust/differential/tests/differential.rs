@@ -114,6 +114,10 @@ fn pairs() {
     for kind in 1..=5 {
         assert!(tally.of_kind(kind) >= all / 4, "kind {kind}: {tally}");
     }
+    for operator in 1..=15 {
+        let passed = tally.of_operator(operator);
+        assert!(passed >= all / 20, "operator {operator}: {tally}");
+    }
     for depth in 1..=8 {
         assert!(tally.of_depth(depth) >= all / 500, "depth {depth}: {tally}");
     }
@@ -162,6 +166,8 @@ fn every_field() {
         .iter()
         .find(|(_, c)| c.constraints.len() > 4)
         .expect("one");
+    let held = POOL.iter().find(|pair| has_equation_of(pair, 14));
+    let held = held.expect("one");
     let two_bands = (two_bands_node(), two_bands_certificate());
     let by_cuts = (
         multiples::node(2, 7),
@@ -170,7 +176,15 @@ fn every_field() {
     let multiplied = multiplied(counter);
     let reversed = [&two_bands, counter].map(reversed);
     let [bands, count] = &reversed;
-    for (node, certificate) in [&two_bands, counter, &by_cuts, &multiplied, bands, count] {
+    for (node, certificate) in [
+        &two_bands,
+        counter,
+        held,
+        &by_cuts,
+        &multiplied,
+        bands,
+        count,
+    ] {
         let (node, certificate) = (node.bytes(), certificate.bytes());
         let layout = Layout::of_node(&node);
         for wrong in each_value(layout, &node) {
@@ -187,6 +201,14 @@ fn every_field() {
     assert!(tally.of(22) >= 50, "{tally}");
     assert!(tally.of(23) >= 50 && tally.reordered >= 50, "{tally}");
     assert!(tally.multiplied >= 50, "{tally}");
+    assert!(tally.of_operator(14) >= 1_000, "{tally}");
+}
+
+/// Whether a certificate has an equation line of this operator.
+fn has_equation_of((node, certificate): &Certified, operator: u8) -> bool {
+    let CertificateFile { base, step, .. } = certificate;
+    let mut equations = base.iter().chain(step).filter(|line| line.kind == 1);
+    equations.any(|line| node.records[usize::from(line.p)].operator == operator)
 }
 
 /// The same argument with constraints multiplied through.
@@ -330,7 +352,7 @@ fn largest_files() {
     let kinds = [&largest::KINDS[..], &[largest::CUTS, largest::OF_INTS]].concat();
     for case in 0..72 {
         let kind = kinds[case % 6];
-        let mut node = largest::node(&mut random, kind.ints);
+        let mut node = largest::node(&mut random, kind.ints, case / 12 % 2 == 0);
         if case / 6 % 2 == 1 {
             node = renumbering(&mut random, &node).node(&node);
         }
@@ -375,14 +397,21 @@ fn every_clause() -> Vec<Clause> {
         (9, 0, 2),
         (10, 0, 3),
     ];
-    let ints = [(1, 1, 2), (6, 1, 2), (7, 1, 2), (8, 1, 2)];
+    let ints = [
+        (1, 1, 2),
+        (6, 1, 2),
+        (7, 1, 2),
+        (8, 1, 2),
+        (14, 1, 3),
+        (15, 1, 3),
+    ];
     let either = [0, 1].map(|kind| [(11, kind, 4), (12, kind, 2), (13, kind, 2)]);
     let all = counts.into_iter().chain(ints).chain(either.concat());
     let windows = [(false, true), (false, false), (true, true), (true, false)];
     let listed = windows.into_iter().flat_map(|(step, first)| {
         let given = all
             .clone()
-            .filter(move |(op, ..)| !(step && first && *op >= 12));
+            .filter(move |(op, ..)| !(step && first && matches!(op, 12 | 13)));
         given.flat_map(move |(op, kind, count)| (0..count).map(move |r| (step, first, op, kind, r)))
     });
     listed.collect()
@@ -395,7 +424,7 @@ fn every_clause() -> Vec<Clause> {
 fn coverage() {
     let mut clauses: BTreeMap<Clause, u64> = BTreeMap::new();
     let mut others: BTreeMap<(bool, u8, u8), u64> = BTreeMap::new();
-    for case in 0..6_000 {
+    for case in 0..9_000 {
         let mut random = Random::of_case(8, case);
         let Some(((node, file), Expected::Accepted)) = cases::case(&mut random, &POOL).pop() else {
             continue;

@@ -11,7 +11,7 @@ use std::collections::BTreeMap;
 const LEAST: u64 = 100;
 
 /// The operators whose clauses have constraints.
-const OPERATORS: [u8; 9] = [1, 6, 7, 8, 9, 10, 11, 12, 13];
+const OPERATORS: [u8; 11] = [1, 6, 7, 8, 9, 10, 11, 12, 13, 14, 15];
 
 /// The sorts of multiplied constraints, each with whether this one is of it.
 fn sorts(written: &Constraint) -> Vec<(&'static str, bool)> {

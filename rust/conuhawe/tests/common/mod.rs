@@ -5,14 +5,26 @@
 use std::fs;
 use std::path::Path;
 
-fn example(name: &str) -> Vec<u8> {
-    let folder = Path::new(env!("CARGO_MANIFEST_DIR")).join("../../examples/two-bands");
-    fs::read(folder.join(name)).expect("the example stands in the repository")
+fn example(folder: &str, name: &str) -> Vec<u8> {
+    let examples = Path::new(env!("CARGO_MANIFEST_DIR")).join("../../examples");
+    fs::read(examples.join(folder).join(name)).expect("the example stands in the repository")
 }
 
 /// The node file and the certificate of the two bands.
 pub fn two_bands() -> (Vec<u8>, Vec<u8>) {
-    (example("node.bin"), example("cert.bin"))
+    let [node, certificate] = ["node.bin", "cert.bin"].map(|name| example("two-bands", name));
+    (node, certificate)
+}
+
+/// The node file and the table of ranges of the flight list.
+pub fn flight_list() -> (Vec<u8>, Vec<i64>) {
+    let [node, table] = ["node.bin", "table.bin"].map(|name| example("flight-list", name));
+    let (numbers, rest) = table.as_chunks();
+    assert_eq!(rest, [], "a table has numbers of 64 bits");
+    (
+        node,
+        numbers.iter().copied().map(i64::from_le_bytes).collect(),
+    )
 }
 
 /// A file with a note before it.

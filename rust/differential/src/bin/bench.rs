@@ -1,9 +1,11 @@
 //! Times of each checker on the same input in the same run: verdicts on large
 //! and small certificates, instants of a node of 64 streams, cuts beside
 //! arithmetic lines, equation lines with multiplied constraints beside the same
-//! lines without, and instants of the same node in other orders. The last two
-//! are in the order of the requests: a library from before 02's S-2 or S-3
-//! refuses what it does not know, and the run ends there.
+//! lines without, instants of the same node in other orders, instants of
+//! lessers and greaters, and tables of ranges. The last four are in the order of
+//! the requests: a library from before 02's S-2 or S-3 refuses what it does not
+//! know, and the run ends there; one from before S-12 is not linked. Nodes of
+//! the other rows have no lessers and greaters, and are those of before.
 //!
 //! `cargo run --offline --release --bin bench`; with
 //! `--no-default-features` the reference alone. The checkers take turns in
@@ -15,6 +17,7 @@ use differential::by_reference::Reference;
 use differential::checker::{Checker, Record};
 use differential::draft::MAX_BLOCKS;
 use differential::largest;
+use differential::listed::Listed;
 use differential::random::Random;
 use reference::build::renumber::Renumbering;
 use reference::build::{CertificateFile, Line, NodeFile, BOOL};
@@ -92,7 +95,7 @@ fn measure(what: &str, per: usize, run: &dyn Fn(&dyn Checker)) {
 /// Certificates of about 800 and of 80 lines, of each kind.
 fn verdicts(random: &mut Random) {
     for kind in largest::KINDS {
-        let node = largest::node(random, kind.ints);
+        let node = largest::node(random, kind.ints, false);
         let large = largest::certificate(random, &node, 2, kind, MAX_BLOCKS);
         let small = largest::certificate(random, &node, 2, kind, 80);
         verdict(kind.name, &node, &large);
@@ -205,7 +208,7 @@ fn cuts(random: &mut Random) {
 /// beside the same line where it is not.
 fn factors(random: &mut Random) {
     let kind = largest::OF_INTS;
-    let node = largest::node(random, kind.ints);
+    let node = largest::node(random, kind.ints, false);
     let plain = largest::certificate(random, &node, 2, kind, MAX_BLOCKS);
     verdict(kind.name, &node, &plain);
     for factor in [2, 1_000_000] {
@@ -256,7 +259,7 @@ fn repeated_part(part: &[Line], times: usize, was: usize, is: usize) -> Vec<Line
 
 /// The reader on 64 streams.
 fn reading(random: &mut Random) {
-    let node = largest::node(random, 5).bytes();
+    let node = largest::node(random, 5, false).bytes();
     measure("reading 64 streams", 64, &|checker| {
         let _ = black_box(checker.read(black_box(&node)));
     });
@@ -291,10 +294,37 @@ fn orders(node: &NodeFile, inputs: &[i64]) {
     }
 }
 
+/// A pass of lessers and greaters.
+fn extremes(random: &mut Random) {
+    let node = largest::extremes(random);
+    let inputs: Vec<i64> = (0..7).map(|_| random.spread()).collect();
+    instants("200 instants, lessers and greaters", &node, &inputs);
+}
+
+/// The check of a table of 64 ranges that lists its node, and of one whose last
+/// ends are wrong.
+fn tables(random: &mut Random) {
+    let Listed { node, ends } = largest::listed(random);
+    let file = node.bytes();
+    let mut wrong = ends.clone();
+    wrong[63] = [1, 0];
+    for (what, number, table) in [("", 0, &ends), (", refused with 71", 71, &wrong)] {
+        let table = table.as_flattened();
+        let answers = |by: &&dyn Checker| {
+            let answer = by.ranges(&file, table);
+            answer.map_or_else(|refusal| refusal.number, |()| 0) == number
+        };
+        assert!(CHECKERS.iter().all(answers));
+        measure(&format!("ranges of 64 streams{what}"), 64, &|checker| {
+            let _ = black_box(checker.ranges(black_box(&file), black_box(table)));
+        });
+    }
+}
+
 /// A node of 64 streams with inputs on which every instant is answered.
 fn lasting(random: &mut Random) -> (NodeFile, Vec<i64>) {
     loop {
-        let node = largest::node(random, 5);
+        let node = largest::node(random, 5, false);
         let count = node
             .records
             .iter()
@@ -324,4 +354,6 @@ fn main() {
     cuts(&mut random);
     factors(&mut random);
     orders(&node, &inputs);
+    extremes(&mut random);
+    tables(&mut random);
 }
