@@ -38,7 +38,7 @@ LESSER_PROOFS = (
     ("lesser-and-greater", lesser_cases.lesser_and_greater(), 1, 35, 35),
     ("lesser-of-one", lesser_cases.lesser_of_one(), 1, 15, 15),
     ("absolute-by-greater", lesser_cases.absolute_by_greater(), 1, 13, 13),
-    ("least-so-far", lesser_cases.least_so_far(), 1, 9, 15), ("flight-list", flight_proofs.flight_list(), 1, 29, 37),
+    ("least-so-far", lesser_cases.least_so_far(), 1, 9, 15), ("flight-list", flight_proofs.flight_list(), 1, 43, 52),
 )
 # The two bands with the property first, and every operator in disorder.
 FIRST = (5, 0, 1, 2, 3, 4)
@@ -612,13 +612,13 @@ def false_turns():
     # and with the bound that it should have
     refused("false-turn-bound-scaled", "forged-minutes", half_minute_proofs.half_minutes(60), 20, "line 9")
     refused("false-turn-loop", "forged-loop", order_proofs.forged(), 23, "record 2")
-    refused("false-turn-half-a-clause", "forged-flight-list", flight_proofs.forged(), 17, "line 4")
-    # with the whole clause, which has 2 in place of 1; and with what flight-list says
-    refused("false-turn-whole-clause", "forged-flight-list", flight_proofs.flight_list(flight_proofs.by_cases_of(2)), 20, "line 7")
-    refused("false-turn-another-clause", "forged-flight-list", flight_proofs.flight_list(), 17, "line 4")
-    # 8 is the greater of 7 and 3, where line 5 says that it is at most 3
-    NODES["held-by-greater"] = node(replaced(flight_proofs.FLIGHT_LIST, 8, rec(15, INT, 7, 3)), 13)
-    refused("false-turn-held-by-greater", "held-by-greater", flight_proofs.flight_list(), 17, "line 5")
+    refused("false-turn-half-a-clause", "forged-flight-list", flight_proofs.forged(), 17, "line 5")
+    # with the whole clause, which has 3 in place of 1; and with what flight-list says
+    refused("false-turn-whole-clause", "forged-flight-list", flight_proofs.flight_list(flight_proofs.by_cases_of(3)), 20, "line 7")
+    refused("false-turn-another-clause", "forged-flight-list", flight_proofs.flight_list(), 17, "line 5")
+    # 10 is the greater of 9 and 4, where line 6 says that it is at most 4
+    NODES["held-by-greater"] = node(replaced(flight_proofs.FLIGHT_LIST, 10, rec(15, INT, 9, 4)), 16)
+    refused("false-turn-held-by-greater", "held-by-greater", flight_proofs.flight_list(), 17, "line 6")
 
 
 def main():

@@ -93,12 +93,14 @@ HALVES = (("asked", "minutes asked for"), ("zero", "a constant"), ("slots", "the
           ("room", "their minutes, 20 each"), ("before", "minutes booked up to one instant before"),
           ("sum", "these and those asked for"), ("fits", "there is room for them"), ("booked", "minutes booked"),
           ("halves", "their half minutes"), ("pass", "how many half minutes a pass has"), ("fine", "the property"))
-FLIGHT = (("asked", "minutes asked for"), ("none", "a constant"), ("slot", "the most minutes that can be had at one instant"),
-          ("pass", "the minutes of a pass"), ("wanted", "minutes asked for, or 0 if these are negative"),
-          ("minutes", "what of them can be had"), ("before", "minutes booked up to one instant before"),
-          ("sum", "these and `minutes`"), ("booked", "minutes booked"), ("had", "minutes free one instant before"),
-          ("rest", "these less `minutes`"), ("free", "minutes free"), ("total", "minutes booked and free"),
-          ("fine", "the property"))
+FLIGHT = (("asked", "minutes asked for; negative ones are handed back"), ("none", "a constant"),
+          ("back", "the most minutes that can be handed back at one instant, as a negative number"),
+          ("slot", "the most minutes that can be had at one instant"), ("pass", "the minutes of a pass"),
+          ("wanted", "minutes asked for, or -30 if these are fewer"), ("change", "these, or 30 if these are more"),
+          ("before", "minutes booked one instant before"), ("sum", "these and `change`"),
+          ("raised", "these, or 0 if these are negative"), ("booked", "minutes booked"), ("had", "minutes free one instant before"),
+          ("rest", "these less `change`"), ("capped", "these, or 90 if these are more"), ("free", "minutes free"),
+          ("total", "minutes booked and free"), ("fine", "the property"))
 EXAMPLES = (
     Example(
         "two-bands", "Two bands, one dish",
@@ -288,41 +290,51 @@ EXAMPLES = (
         30, 40, 45, 40, 30, 0."""),
     Example(
         "flight-list", "Counters for the flight list",
-        """A crew on the ground asks for minutes of a pass, any number at each instant, and is given them from 0 to 30 at once. The
-        minutes booked count up and are held at 90, those of a pass; the minutes free count down from 90 and are held at 0. What
-        is on the crews' flight list may never stop for the size of a number, so the node comes with a table of ranges.""",
+        """Crews on the ground ask for minutes of a pass and hand minutes back, any number at each instant; up to 30 are given or
+        taken at once. The minutes booked begin at 0 and go up by this change, the minutes free begin at 90, those of a pass, and
+        go down by it. Both are held between 0 and 90 by a lesser and a greater. What is on the crews' flight list may never stop
+        for the size of a number, so the node comes with a table of ranges.""",
         FLIGHT,
         "the minutes booked and those free are together at most 90: no minute is both.",
-        """1. Both counters move by the same `minutes`, or one of them is held; that they were together at most 90 one instant
-        before is all that is needed now.""",
-        """say `total` is over `pass`. Clause 2 of a greater says that `free` is at most `rest` or at most `none`. In the second
-        case `booked`, at most `pass` by clause 1 of a lesser, and `free`, at most 0, are together at most `pass`. In the first,
-        `free` is at most `had` less `minutes` and `booked`, by clause 0 of the lesser, at most `before` plus `minutes`: together
-        at most `before` plus `had`. That is 0 and 90 at instant 0, and later the `booked` and the `free` of one instant before,
-        together at most 90 by the property. How the minutes asked for are held doesn't matter here.""",
-        flight_proofs.flight_list(), "accepted depth 1 base 29 step 37",
-        (("0 to 2", "29 to 31", "the property fails: `pass` - `total` is at most -1"),
-         ("3", "32", "equation: `total` is at most `booked` + `free`"),
-         ("4", "33", "clause 2 of a greater: `free` is at most `rest`, or `free` is at most `none`"),
-         ("5", "34", "clause 1 of a lesser: `booked` is at most `pass`"),
-         ("6", "35", "equation: `none` is at most 0"),
-         ("7 to 11", "36 to 40", "arithmetic: lines 2, 3, 5 and 6 (step: 31, 32, 34 and 35) don't hold together with \"`free` is "
+        """1. Both counters move by the same `change`, or one of them is held; that they were together at most 90 one instant before
+        is all that is needed now. Without that both could be 90.""",
+        """say `total` is over `pass`. Clause 2 of a greater says that `free` is at most `capped` or at most `none`. In the second
+        case `free`, at most 0, and `booked`, at most `pass` by clause 1 of a lesser, are together at most `pass`. So `free` is at
+        most `capped`. In the same way `raised` is at most `sum` or at most `none`. In the second case `booked`, at most `raised`
+        by clause 0 of a lesser, is at most 0, and `free` is at most `capped`, at most `pass` by clause 1. So `raised` is at most
+        `sum`. Now `booked` is at most `before` plus `change` and `free` at most `had` less `change`: together at most `before`
+        plus `had`. That is 0 and 90 at instant 0, and later the `booked` and the `free` of one instant before, together at most
+        90 by the property. How the minutes asked for are held doesn't matter here.""",
+        flight_proofs.flight_list(), "accepted depth 1 base 43 step 52",
+        (("0 to 2", "43 to 45", "the property fails: `pass` - `total` is at most -1"),
+         ("3", "46", "equation: `total` is at most `booked` + `free`"),
+         ("4", "47", "equation: `none` is at most 0"),
+         ("5", "48", "clause 2 of a greater: `free` is at most `capped`, or `free` is at most `none`"),
+         ("6", "49", "clause 1 of a lesser: `booked` is at most `pass`"),
+         ("7 to 11", "50 to 54", "arithmetic: lines 2, 3, 4 and 6 (step: 45, 46, 47 and 49) don't hold together with \"`free` is "
           "at most `none`\"; joins with them: that doesn't hold"),
-         ("12", "41", "join: `free` is at most `rest`"),
-         ("13", "42", "equation: `rest` is at most `had` - `minutes`"),
-         ("14", "43", "clause 0 of a lesser: `booked` is at most `sum`"),
-         ("15", "44", "equation: `sum` is at most `before` + `minutes`"),
-         ("16 to 18", "45 to 52", "equations: `before` is at most `none`, and `none` at most 0; `had` is at most `pass` (step: "
-          "`before` is at most `booked` and `had` at most `free` of one instant before, these together at most `total`, that at "
-          "most `pass` by the property, `pass` at most 90, and now at least 90)"),
-         ("19 to 28", "53 to 65", "arithmetic and joins: `{ }`")),
+         ("12", "55", "join: `free` is at most `capped`"),
+         ("13", "56", "clause 2 of a greater: `raised` is at most `sum`, or `raised` is at most `none`"),
+         ("14", "57", "clause 0 of a lesser: `booked` is at most `raised`"),
+         ("15", "58", "clause 1 of a lesser: `capped` is at most `pass`"),
+         ("16 to 22", "59 to 65", "arithmetic: lines 2, 3, 4, 12, 14 and 15 (step: 45, 46, 47, 55, 57 and 58) don't hold together "
+          "with \"`raised` is at most `none`\"; joins with them: that doesn't hold"),
+         ("23", "66", "join: `raised` is at most `sum`"),
+         ("24, 25", "67 to 74", "equations: `before` is at most `none`, and `had` at most `pass` (step: `before` is at most "
+          "`booked` and `had` at most `free` of one instant before, these together at most `total`, that at most `pass` by the "
+          "property, `pass` at most 90, and now at least 90)"),
+         ("26 to 29", "75 to 81", "arithmetic and joins: `before` + `had` - `pass` is at most 0"),
+         ("30", "82", "equation: `sum` is at most `before` + `change`"),
+         ("31", "83", "clause 0 of a lesser: `capped` is at most `rest`"),
+         ("32", "84", "equation: `rest` is at most `had` - `change`"),
+         ("33 to 42", "85 to 94", "arithmetic and joins: `{ }`")),
         "", tuple(flight_proofs.TABLES["flight-list"]),
-        """least and greatest of each stream, in record order. `asked` has the widest range that a table may have, and neither
-        `wanted` nor `minutes` gets more by it, for greater and lesser give one of their operands. The range of each other stream
-        is just what its operator gives where each operand is by itself anywhere in its range. So `total` is up to 180 here, 90
-        and 90, although the certificate shows that it is at most 90: a table is reckoned stream by stream. `before` and `had`
-        have room for what they are at instant 0 and for what they take over later, which closes the circle: no instant is refused
-        with 34 as long as `asked` stays in its range.""",
+        """least and greatest of each stream, in record order. `asked` has the widest range that a table may have, and no other
+        stream but `wanted` gets more by it, for lesser and greater give one of their operands. The range of each other stream is
+        just what its operator gives where each operand is by itself anywhere in its range. So `total` is up to 180 here, 90 and
+        90, although the certificate shows that it is at most 90: a table is reckoned stream by stream. `before` and `had` have
+        room for what they are at instant 0 and for what they take over later, which closes the circle: no instant is refused with
+        34 as long as `asked` stays in its range.""",
         "listed"),
     Example(
         "forged", "A forged certificate",
@@ -388,22 +400,22 @@ EXAMPLES = (
     Example(
         "forged-flight-list", "A forged clause",
         """The node of flight-list, but its author wants to see a slot free at all times: `free` is held at `slot`, 30, and not at
-        `none`. The minutes booked are held at 90 as before.""",
+        `none`. The minutes booked are held between 0 and 90 as before.""",
         FLIGHT,
-        """the minutes booked and those free are together at most 90. This is false: where `asked` is 30 three times in a row, 90
+        """the minutes booked and those free are together at most 90. This is false: where `asked` is 30 at instants 0, 1 and 2, 90
         are booked at instant 2 and 30 are free, together 120.""",
         "1, but no depth would do.",
-        """the argument is the first case of flight-list's alone. Clause 2 of a greater is that `free` is at most `rest` or at most
-        `slot`. Line 4 says that `free` is at most `rest`, as if a greater were never its second operand, and is refused with 17: a
-        literal is missing. But for line 25, which says the same in the step, all lines after it would stand, up to the empty ones:
-        a checker that is content if what a line has stands in the clause would accept a false property. With both literals the
-        second case is left, which nothing contradicts.""",
-        flight_proofs.forged(), "refused 17 line 4", (), "", tuple(flight_proofs.TABLES["forged-flight-list"]),
-        """that of flight-list, but `sum` has 119 for 120, too small by one. `before` is at most 90 and `minutes` at most 30, so
-        that 120 would have to be inside, and record 7 is named. With the inputs from above and 30 once more `sum` is 120, at
+        """the argument is flight-list's without its first case. Clause 2 of a greater is that `free` is at most `capped` or at most
+        `slot`. Line 5 says that `free` is at most `capped`, as if a greater were never its second operand, and is refused with
+        17: a literal is missing. But for line 41, which says the same in the step, all lines after it would stand, up to the empty
+        ones: a checker that is content if what a line has stands in the clause would accept a false property. With both literals
+        the case of `slot` is left, which nothing contradicts.""",
+        flight_proofs.forged(), "refused 17 line 5", (), "", tuple(flight_proofs.TABLES["forged-flight-list"]),
+        """that of flight-list, but `sum` has 119 for 120, too small by one. `before` is at most 90 and `change` at most 30, so
+        that 120 would have to be inside, and record 8 is named. With the inputs from above and 30 once more `sum` is 120, at
         instant 3. With the table of flight-list the node would be listed: `free` is 30 to 90 by its operator, which lies inside
         0 to 90. A table says nothing of the property.""",
-        "refused 72 record 7"),
+        "refused 72 record 8"),
 )
 
 PAGE = """# Examples

@@ -53,15 +53,12 @@ def whole_nodes():
     NODES.update(flight_proofs.NODES)
     ranges = flight_proofs.TABLES["flight-list"]
     listed("flight-list", "flight-list", *ranges)
-    of_record("forged-flight-list", "forged-flight-list", 7, *flight_proofs.TABLES["forged-flight-list"])
+    of_record("forged-flight-list", "forged-flight-list", 8, *flight_proofs.TABLES["forged-flight-list"])
     listed("flight-list-of-forged", "forged-flight-list", *ranges)
     # each range that an operator gives is as small as it can be
-    for i, name, ends in ((4, "least", (1, LARGEST)), (4, "greatest", (0, LARGEST - 1)), (5, "least", (1, 30)),
-                          (5, "greatest", (0, 29)), (6, "least", (1, 90)), (6, "greatest", (0, 89)), (7, "least", (1, 120)),
-                          (7, "greatest", (0, 119)), (8, "least", (1, 90)), (8, "greatest", (0, 89)), (9, "least", (1, 90)),
-                          (9, "greatest", (0, 89)), (10, "least", (-29, 90)), (10, "greatest", (-30, 89)), (11, "least", (1, 90)),
-                          (11, "greatest", (0, 89)), (12, "least", (1, 180)), (12, "greatest", (0, 179))):
-        of_record(f"flight-list-{i}-{name}", "flight-list", i, *replaced(ranges, i, ends))
+    for i, (least, greatest) in list(enumerate(ranges))[5:16]:
+        of_record(f"flight-list-{i}-least", "flight-list", i, *replaced(ranges, i, (least + 1, greatest)))
+        of_record(f"flight-list-{i}-greatest", "flight-list", i, *replaced(ranges, i, (least, greatest - 1)))
 
     # with the number 0 all that follows from it is fixed; with another, 19 adds it to itself for ever
     NODES["all-operators"] = node(ALL, 17)
