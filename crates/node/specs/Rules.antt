@@ -60,7 +60,7 @@ unusedOk row r =
     && (readsIt (row .c) || eqb (r .c) 0)
     && eqb (r .rest) 0
 
--- 5: operator over 13, type byte over 1, K against its rule, unused field not 0
+-- 5: operator over 15, type byte over 1, K against its rule, unused field not 0
 unfoldable pub shapeOk : Record → Bool
 shapeOk r =
     ltb (r .op) operators

@@ -8,7 +8,7 @@ pub const FIXED_BYTES: usize = 2;
 pub const COUNTS: usize = 3;
 // "distance wrong or past the start"
 pub const DISTANCE: usize = 4;
-// "operator over 13, type byte over 1, K against its rule, unused field not 0"
+// "operator over 13, type byte over 1, K against its rule, unused field not 0"; with operators 14 and 15 "5 now says over 15"
 pub const SHAPE: usize = 5;
 // "not below n"
 pub const OPERANDS: usize = 6;

@@ -5,7 +5,10 @@ use mathlib.Core.Bool.{Bool, true, false, cond, _&&_}
 use mathlib.Core.List.{List, [], _∷_}
 use Prim.Native.Nat.{ℕ, _<_, _≤_}
 use native.Mathlib.Omega.{arith}
-use lib.IntN.{ℤ}
+use lib.IntN.{ℤ, _+ℤ_}
+use Rattle.integers.specs.Range.{lesser, greater}
+use Rattle.integers.proofs.Extremes.{lesser-mono, greater-mono}
+use Rattle.integers.proofs.Order.{+ℤ-mono}
 use Rattle.answers.specs.Answer.{accepted, NodeValues}
 use Rattle.answers.proofs.Tests.{both-true}
 use Rattle.node.specs.declared.equation.StreamType.{StreamType}
@@ -31,7 +34,7 @@ use Rattle.ranges.specs.Listing.{resultsOk}
 use Rattle.ranges.specs.Results.{ends, isInside, allInside, single, sumOf, differenceOf, multipleOf, lesserOf, greaterOf}
 use Rattle.ranges.specs.Table.{rangeIn, In}
 use Rattle.ranges.specs.Theorems.{InputsInside, ValuesInside}
-use Rattle.ranges.proofs.Extents.{wider, in-single, in-sum, in-difference, in-multiple, in-lesser, in-greater}
+use Rattle.ranges.proofs.Extents.{wider, in-single, in-rising, in-difference, in-multiple}
 use Rattle.ranges.proofs.Tables.{int-listed}
 
 -- a bool is no int
@@ -58,7 +61,7 @@ module _ (own : StreamType) (r : Range) (of : ℕ → Range) (int : own ≡ IntT
   meaning-in (And x z) g f p v y i a h = no-int int y
   meaning-in (Or x z) g f p v y i a h = no-int int y
   meaning-in (Same x z) g f p v y i a h = no-int int y
-  meaning-in (Sum x z) g f p v y i a h = one (sumOf (of x) (of z)) _ a (in-sum (of x) (of z) _ _ (h .0 refl refl) (h .1 .0 refl refl))
+  meaning-in (Sum x z) g f p v y i a h = one (sumOf (of x) (of z)) _ a (in-rising _+ℤ_ +ℤ-mono (of x) (of z) _ _ (h .0 refl refl) (h .1 .0 refl refl))
   meaning-in (Difference x z) g f p v y i a h = one (differenceOf (of x) (of z)) _ a (in-difference (of x) (of z) _ _ (h .0 refl refl) (h .1 .0 refl refl))
   meaning-in (Multiple k x) g f p v y i a h = one (multipleOf k (of x)) _ a (in-multiple k (of x) _ (h .0 refl refl))
   meaning-in (AtMost x z) g f p v y i a h = no-int int y
@@ -66,8 +69,8 @@ module _ (own : StreamType) (r : Range) (of : ℕ → Range) (int : own ≡ IntT
   meaning-in (If c x z) g f p v y i a h = either (of x) (of z) (truth (v c)) (v x) (v z) a (λ b. h .0 refl int) (λ b. h .1 .0 refl int)
   meaning-in (Arrow x z) g f p v y i a h = either (of x) (of z) f (v x) (v z) a (λ b. h .0 refl int) (λ b. h .1 .0 refl int)
   meaning-in (FollowedBy x z) g f p v y i a h = either (of x) (of z) f (v x) (p z) a (λ b. h .0 refl int) (λ b. h .1 .0 (rw b) int)
-  meaning-in (Lesser x z) g f p v y i a h = one (lesserOf (of x) (of z)) _ a (in-lesser (of x) (of z) _ _ (h .0 refl refl) (h .1 .0 refl refl))
-  meaning-in (Greater x z) g f p v y i a h = one (greaterOf (of x) (of z)) _ a (in-greater (of x) (of z) _ _ (h .0 refl refl) (h .1 .0 refl refl))
+  meaning-in (Lesser x z) g f p v y i a h = one (lesserOf (of x) (of z)) _ a (in-rising lesser lesser-mono (of x) (of z) _ _ (h .0 refl refl) (h .1 .0 refl refl))
+  meaning-in (Greater x z) g f p v y i a h = one (greaterOf (of x) (of z)) _ a (in-rising greater greater-mono (of x) (of z) _ _ (h .0 refl refl) (h .1 .0 refl refl))
 
 module _ (file : List ℕ) (table : List ℤ) {node : NodeValues} (e : verdictOf file ≡ accepted node) (results : (i : ℕ) → i < streamsOf file → resultsOk file table i ≡ true) where
   -- what every value of stream s keeps

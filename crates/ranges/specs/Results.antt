@@ -23,8 +23,12 @@ pub record ResultsOf (f : (x y : ℤ) → ℤ) (a b r : Range) : Type 0 where
 abbrev pub single : ℤ → Range
 single k = range k k
 
+-- of an operator whose results rise with both operands: those of the least ends, and of the greatest
+abbrev pub rising : (op : ℤ → ℤ → ℤ) → Range → Range → Range
+rising op a b = range (op (a .least) (b .least)) (op (a .greatest) (b .greatest))
+
 abbrev pub sumOf : Range → Range → Range
-sumOf a b = range (a .least +ℤ b .least) (a .greatest +ℤ b .greatest)
+sumOf a b = rising _+ℤ_ a b
 
 abbrev pub differenceOf : Range → Range → Range
 differenceOf a b = range (a .least -ℤ b .greatest) (a .greatest -ℤ b .least)
@@ -35,10 +39,10 @@ multipleOf k a =
     cond (leZ (pos 0) k) (range (k *ℤ a .least) (k *ℤ a .greatest)) (range (k *ℤ a .greatest) (k *ℤ a .least))
 
 abbrev pub lesserOf : Range → Range → Range
-lesserOf a b = range (lesser (a .least) (b .least)) (lesser (a .greatest) (b .greatest))
+lesserOf a b = rising lesser a b
 
 abbrev pub greaterOf : Range → Range → Range
-greaterOf a b = range (greater (a .least) (b .least)) (greater (a .greatest) (b .greatest))
+greaterOf a b = rising greater a b
 
 -- the ranges that an int stream's own must hold, by the ranges of all streams: of an input, and of what gives a bool, none
 abbrev pub ends : Equation → (of : ℕ → Range) → List Range

@@ -141,12 +141,14 @@ fn came(counter: &Counter, often: usize) -> bool {
     counter.came.iter().all(|came| *came >= often)
 }
 
-/// A counter comes to both ends, so that no narrower range would do.
+/// Both counters come to both ends again and again, so that no narrower range
+/// would do.
 #[test]
 fn the_flight_list() {
     let (file, table) = flight_list();
     let counters = pass(&file, &table);
-    assert!(counters.iter().any(|counter| came(counter, 1)));
+    assert_eq!(counters.len(), 2);
+    assert!(counters.iter().all(|counter| came(counter, 100)));
 }
 
 /// A level that is moved by an input and held from 0 to 1,000, and one that is

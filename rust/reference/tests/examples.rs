@@ -9,12 +9,19 @@ use reference::build::random::Random;
 use reference::build::{search, BOOL, INT};
 use reference::certificate::check;
 use reference::node::{self, Node, Type};
+use reference::ranges;
 use reference::session::{begin, instant, Record as Session};
 use std::fs;
 use std::process::Command;
 
 /// The folders that are refused, by name.
-const FORGED: [&str; 4] = ["forged", "forged-loop", "forged-minutes", "forged-pairs"];
+const FORGED: [&str; 5] = [
+    "forged",
+    "forged-flight-list",
+    "forged-loop",
+    "forged-minutes",
+    "forged-pairs",
+];
 
 #[test]
 fn every_verdict_is_as_written() {
@@ -25,6 +32,38 @@ fn every_verdict_is_as_written() {
         };
         assert_eq!(said, folder.verdict, "{}", folder.name());
     }
+}
+
+/// The table of ranges of an example that has one.
+fn table(folder: &Folder) -> Vec<i64> {
+    let bytes = fs::read(folder.path.join("table.bin")).unwrap();
+    let (numbers, rest) = bytes.as_chunks();
+    assert!(rest.is_empty(), "{}", folder.name());
+    numbers.iter().copied().map(i64::from_le_bytes).collect()
+}
+
+#[test]
+fn tables_are_listed_as_written() {
+    for (name, wanted) in [
+        ("flight-list", "listed"),
+        ("forged-flight-list", "refused 72 record 8"),
+    ] {
+        let folder = named(name);
+        let said = match ranges::check(&folder.node, &table(&folder)) {
+            Ok(()) => "listed".to_string(),
+            Err(refusal) => refusal.to_string(),
+        };
+        let written = fs::read_to_string(folder.path.join("listed")).unwrap();
+        assert_eq!((said.as_str(), written.trim_end()), (wanted, wanted));
+    }
+}
+
+/// Three bookings of thirty minutes make the forged one's property false.
+#[test]
+fn the_forged_flight_list_breaks_its_property() {
+    let asked = [[30], [30], [30]];
+    assert_eq!(run("forged-flight-list", &asked, 16), [1, 1, 0]);
+    assert_eq!(run("flight-list", &asked, 16), [1, 1, 1]);
 }
 
 #[test]
@@ -65,7 +104,7 @@ fn only_the_forged_are_refused() {
     let refused = |folder: &&Folder| !folder.verdict.starts_with("accepted");
     let names: Vec<&str> = folders.iter().filter(refused).map(Folder::name).collect();
     assert_eq!(names, FORGED);
-    assert_eq!(folders.len(), 14);
+    assert_eq!(folders.len(), 16);
 }
 
 /// Inputs for one instant.
