@@ -12,7 +12,7 @@ pub enum StreamType {
 }
 
 // One case an operator, 0 to 15 in order: "A record is one of fourteen operators, each with its own operands", and
-// "operators 14, lesser of a and b, and 15, greater, are added". Operands stand in the order of the operator's value,
+// "Operators 14, lesser of a and b, and 15, greater, are added". Operands stand in the order of the operator's value,
 // K·a or a, b; where c comes first they have names.
 pub enum Equation {
     Input,

@@ -13,7 +13,7 @@ use Rattle.answers.proofs.Tests.{both-true}
 use Rattle.ranges.specs.declared.table.Range.{Range}
 use Rattle.ranges.specs.Results.{ResultsOf, single, rising, differenceOf, multipleOf, isInside}
 use Rattle.ranges.specs.Table.{In}
-use Rattle.ranges.specs.Theorems.{Ordered, ResultsAre}
+use Rattle.ranges.specs.Theorems.{NotReversed, ResultsAre}
 
 -- what lies in a range lies in one that holds it
 pub wider : (own r : Range) (z : ℤ) → isInside own r ≡ true → In r z → In own z
@@ -26,10 +26,10 @@ wider own r z e h =
     }
 
 -- the ends of a range lie in it
-at-least : (r : Range) → Ordered r → In r (r .least)
+at-least : (r : Range) → NotReversed r → In r (r .least)
 at-least r o = record { above = ≤ℤ-refl _; below = o }
 
-at-greatest : (r : Range) → Ordered r → In r (r .greatest)
+at-greatest : (r : Range) → NotReversed r → In r (r .greatest)
 at-greatest r o = record { above = o; below = ≤ℤ-refl _ }
 
 pub in-single : (k : ℤ) → In (single k) k
@@ -41,7 +41,7 @@ module _ (op : ℤ → ℤ → ℤ) (mono : (a b c d : ℤ) → a ≤ℤ b → c
   pub in-rising : (x y : ℤ) → In a x → In b y → In (rising op a b) (op x y)
   in-rising x y h k = record { above = mono _ _ _ _ (h .above) (k .above); below = mono _ _ _ _ (h .below) (k .below) }
 
-  rising-results : Ordered a → Ordered b → ResultsOf op a b (rising op a b)
+  rising-results : NotReversed a → NotReversed b → ResultsOf op a b (rising op a b)
   rising-results o p =
       record {
         within = in-rising;
@@ -54,7 +54,7 @@ module _ (op : ℤ → ℤ → ℤ) (mono : (a b c d : ℤ) → a ≤ℤ b → c
 pub in-difference : (a b : Range) (x y : ℤ) → In a x → In b y → In (differenceOf a b) (x -ℤ y)
 in-difference a b x y h k = record { above = -ℤ-mono _ _ _ _ (h .above) (k .below); below = -ℤ-mono _ _ _ _ (h .below) (k .above) }
 
-difference-results : (a b : Range) → Ordered a → Ordered b → ResultsOf (λ x y. x -ℤ y) a b (differenceOf a b)
+difference-results : (a b : Range) → NotReversed a → NotReversed b → ResultsOf (λ x y. x -ℤ y) a b (differenceOf a b)
 difference-results a b o p =
     record {
       within = in-difference a b;
@@ -74,7 +74,7 @@ unfolding multipleOf
 in-multiple (pos n) a x h = rw (multiple-rises n a) (in-rising (λ x y. pos n *ℤ x) (λ c d e f l m. *ℤ-mono n c d l) a a x x h h)
 in-multiple (negsuc n) a x h = record { above = *ℤ-flips n _ _ (h .below); below = *ℤ-flips n _ _ (h .above) }
 
-multiple-results : (k : ℤ) (a : Range) → Ordered a → ResultsOf (λ x y. k *ℤ x) a a (multipleOf k a)
+multiple-results : (k : ℤ) (a : Range) → NotReversed a → ResultsOf (λ x y. k *ℤ x) a a (multipleOf k a)
 unfolding multipleOf
 multiple-results (pos n) a o = rw (multiple-rises n a) (rising-results (λ x y. pos n *ℤ x) (λ c d e f l m. *ℤ-mono n c d l) a a o o)
 multiple-results (negsuc n) a o =

@@ -46,25 +46,25 @@ use Rattle.session.proofs.Sessions.{sessions-exact}
 use Rattle.ranges.specs.declared.table.Range.{Range}
 use Rattle.ranges.specs.Outcome.{ListedRules}
 use Rattle.ranges.specs.Results.{single}
-use Rattle.ranges.specs.Table.{range, rangeIn, rangeOk, In, Bounded}
+use Rattle.ranges.specs.Table.{range, rangeIn, rangeOk, In, SmallEnds}
 use Rattle.ranges.specs.Theorems.{InputsInside, ValuesInside, SolutionsInside, answerInside, SessionsInside}
 use Rattle.ranges.proofs.Extents.{in-single}
 use Rattle.ranges.proofs.Outcomes.{listed-keeps}
 use Rattle.ranges.proofs.Staying.{solution-in}
-use Rattle.ranges.proofs.Tables.{ok-bounded}
+use Rattle.ranges.proofs.Tables.{ok-small}
 
 -- ---- 64 bits hold what lies in a range, and a bool
 
-bounded-inside : (r : Range) (z : ℤ) → Bounded r → In r z → inside z ≡ true
-bounded-inside r z b h =
+small-inside : (r : Range) (z : ℤ) → SmallEnds r → In r z → inside z ≡ true
+small-inside r z b h =
     let least = abs-≤ 4000000000 (r .least) .0 (b .least) in
     let greatest = abs-≤ 4000000000 (r .greatest) .0 (b .greatest) in
     let small : natAbs z ≤ 4000000000 = abs-≤ 4000000000 z .1 (≤ℤ-trans _ _ _ (least .0) (h .above), ≤ℤ-trans _ _ _ (h .below) (greatest .1)) in
     inside-fits z .1 (abs-fits w64 z (omega arith))
 
 value-inside : (ty : StreamType) (r : Range) (z : ℤ) → rangeOk ty r ≡ true → Fits ty z → (ty ≡ IntType → In r z) → inside z ≡ true
-value-inside BoolType r z ok fits h = bounded-inside (range (pos 0) (pos 1)) z (record { least = omega arith; greatest = omega arith }) (record { above = fits .0; below = fits .1 })
-value-inside IntType r z ok fits h = bounded-inside r z (ok-bounded IntType r ok) (h refl)
+value-inside BoolType r z ok fits h = small-inside (range (pos 0) (pos 1)) z (record { least = omega arith; greatest = omega arith }) (record { above = fits .0; below = fits .1 })
+value-inside IntType r z ok fits h = small-inside r z (ok-small IntType r ok) (h refl)
 
 -- where each value is inside, none is the first outside
 none-along : (file : List ℕ) {node : NodeValues} → verdictOf file ≡ accepted node → (ok : ℕ → Bool) → ((i : ℕ) → i < streamsOf file → ok i ≡ true) → firstAlong (orderOf file) ok ≡ Nothing
@@ -120,7 +120,7 @@ module _ (file : List ℕ) (table : List ℤ) (listed : ListedRules file table) 
         untyped : ¬ (TypedInstant (nodeOf file) (c .inputs)) → answerTo s c ≡ answerInside file c
         untyped not-typed =
             exact .answers (λ t i. pos 0) (λ typed. absurd (not-typed typed))
-            ∙ answer-inside c (λ i. pos 0) (λ i l. bounded-inside (single (pos 0)) (pos 0) (record { least = omega arith; greatest = omega arith }) (in-single (pos 0)))
+            ∙ answer-inside c (λ i. pos 0) (λ i l. small-inside (single (pos 0)) (pos 0) (record { least = omega arith; greatest = omega arith }) (in-single (pos 0)))
 
         call-inside : answerTo s c ≡ answerInside file c
         call-inside = by (eqb (length (c .inputs)) (inputCount file)) refl (lowest (inputTyped file (c .inputs)) (streamsOf file)) refl

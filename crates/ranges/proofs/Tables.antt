@@ -27,7 +27,7 @@ use Rattle.streams.proofs.Numbers.{equals-true}
 use Rattle.ranges.specs.declared.table.Range.{Range}
 use Rattle.ranges.specs.Listing.{endsOk, resultsOk, tableVerdict}
 use Rattle.ranges.specs.Results.{ends, allInside}
-use Rattle.ranges.specs.Table.{rangeIn, rangeOk, Bounded, EachBounded}
+use Rattle.ranges.specs.Table.{rangeIn, rangeOk, SmallEnds, AllSmall}
 
 -- 72 of a bool stream, and of an int one
 
@@ -58,15 +58,15 @@ module _ (file : List ℕ) (table : List ℤ) (n : ℕ) (n-is : n ≡ streamsOf 
 
 -- ends that 71 passes
 
-nought-bounded : {z : ℤ} → z ≡ pos 0 → natAbs z ≤ 4000000000
-nought-bounded e = rw e (omega arith)
+nought-small : {z : ℤ} → z ≡ pos 0 → natAbs z ≤ 4000000000
+nought-small e = rw e (omega arith)
 
-pub record InOrder (r : Range) : Type 0 where
+pub record WithinLimits (r : Range) : Type 0 where
   pub low : negℤ (pos 4000000000) ≤ℤ r .least
   pub ordered : r .least ≤ℤ r .greatest
   pub high : r .greatest ≤ℤ pos 4000000000
 
-pub int-ends : (r : Range) → rangeOk IntType r ≡ true → InOrder r
+pub int-ends : (r : Range) → rangeOk IntType r ≡ true → WithinLimits r
 unfolding rangeOk
 int-ends r e =
     let low = leZ (negℤ (pos 4000000000)) (r .least) in
@@ -76,12 +76,12 @@ int-ends r e =
     let one = both-true low ordered (two .0) in
     record { low = leZ-true _ _ .0 (one .0); ordered = leZ-true _ _ .0 (one .1); high = leZ-true _ _ .0 (two .1) }
 
-pub ok-bounded : (ty : StreamType) (r : Range) → rangeOk ty r ≡ true → Bounded r
+pub ok-small : (ty : StreamType) (r : Range) → rangeOk ty r ≡ true → SmallEnds r
 unfolding rangeOk
-ok-bounded BoolType r e =
+ok-small BoolType r e =
     let noughts = both-true (equals (r .least) (pos 0)) (equals (r .greatest) (pos 0)) e in
-    record { least = nought-bounded (equals-true _ _ .0 (noughts .0)); greatest = nought-bounded (equals-true _ _ .0 (noughts .1)) }
-ok-bounded IntType r e =
+    record { least = nought-small (equals-true _ _ .0 (noughts .0)); greatest = nought-small (equals-true _ _ .0 (noughts .1)) }
+ok-small IntType r e =
     let o = int-ends r e in
     record {
       least = abs-≤ 4000000000 (r .least) .1 (o .low, ≤ℤ-trans _ _ _ (o .ordered) (o .high));
@@ -90,15 +90,15 @@ ok-bounded IntType r e =
 
 -- past the table's end both ends are 0
 
-past-bounded : (table : List ℤ) (i : ℕ) → length table ≤ i → natAbs (valuesIn table i) ≤ 4000000000
-past-bounded table i l = nought-bounded (List·getD-eq-default table (pos 0) l)
+past-small : (table : List ℤ) (i : ℕ) → length table ≤ i → natAbs (valuesIn table i) ≤ 4000000000
+past-small table i l = nought-small (List·getD-eq-default table (pos 0) l)
 
 module _ (file : List ℕ) (table : List ℤ) (n : ℕ) (size : length table ≡ 2 * n) (ok : every (endsOk file table) n ≡ true) where
-  pub each-bounded : EachBounded table
-  each-bounded i = by (ltb i n) refl
+  pub all-small : AllSmall table
+  all-small i = by (ltb i n) refl
     where
-      by : (b : Bool) → ltb i n ≡ b → Bounded (rangeIn table i)
-      by true e = ok-bounded (typeAt file i) (rangeIn table i) (every-all (endsOk file table) n ok i (ltb-true i n e))
+      by : (b : Bool) → ltb i n ≡ b → SmallEnds (rangeIn table i)
+      by true e = ok-small (typeAt file i) (rangeIn table i) (every-all (endsOk file table) n ok i (ltb-true i n e))
       by false e =
           let l = ltb-false i n e in
-          record { least = past-bounded table (2 * i) (omega (arith, size)); greatest = past-bounded table (2 * i + 1) (omega (arith, size)) }
+          record { least = past-small table (2 * i) (omega (arith, size)); greatest = past-small table (2 * i + 1) (omega (arith, size)) }

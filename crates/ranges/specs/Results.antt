@@ -19,7 +19,7 @@ pub record ResultsOf (f : (x y : ℤ) → ℤ) (a b r : Range) : Type 0 where
   pub least : (x : ℤ) × ((y : ℤ) × (In a x × In b y × (f x y ≡ r .least)))
   pub greatest : (x : ℤ) × ((y : ℤ) × (In a x × In b y × (f x y ≡ r .greatest)))
 
--- "a constant is its own range"
+-- a constant is its own range
 abbrev pub single : ℤ → Range
 single k = range k k
 

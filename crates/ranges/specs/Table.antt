@@ -28,10 +28,10 @@ rangeOk BoolType r = equals (r .least) (pos 0) && equals (r .greatest) (pos 0)
 rangeOk IntType r =
     leZ (negℤ (pos 4000000000)) (r .least) && leZ (r .least) (r .greatest) && leZ (r .greatest) (pos 4000000000)
 
--- "within ±4,000,000,000"
-pub record Bounded (r : Range) : Type 0 where
+-- what 71 leaves of every range, past the table's end too: ends "within ±4,000,000,000"
+pub record SmallEnds (r : Range) : Type 0 where
   pub least : natAbs (r .least) ≤ 4000000000
   pub greatest : natAbs (r .greatest) ≤ 4000000000
 
-abbrev pub EachBounded : (table : List ℤ) → Type 0
-EachBounded table = (i : ℕ) → Bounded (rangeIn table i)
+abbrev pub AllSmall : (table : List ℤ) → Type 0
+AllSmall table = (i : ℕ) → SmallEnds (rangeIn table i)

@@ -30,16 +30,17 @@ use Rattle.ranges.specs.Listing.{listingOf}
 use Rattle.ranges.specs.Results.{ResultsOf, sumOf, differenceOf, multipleOf, lesserOf, greaterOf}
 use Rattle.ranges.specs.Table.{rangeIn, In}
 
--- the ranges that 72 looks at are those of the operators' results
-abbrev pub Ordered : Range → Type 0
-Ordered r = r .least ≤ℤ r .greatest
+-- a range that has a number: its ends are not "reversed"
+abbrev pub NotReversed : Range → Type 0
+NotReversed r = r .least ≤ℤ r .greatest
 
+-- the ranges that 72 looks at are those of the operators' results
 pub record ResultsAre : Type 0 where
-  pub sum : (a b : Range) → Ordered a → Ordered b → ResultsOf (λ x y. x +ℤ y) a b (sumOf a b)
-  pub difference : (a b : Range) → Ordered a → Ordered b → ResultsOf (λ x y. x -ℤ y) a b (differenceOf a b)
-  pub multiple : (k : ℤ) (a : Range) → Ordered a → ResultsOf (λ x y. k *ℤ x) a a (multipleOf k a)
-  pub lesser : (a b : Range) → Ordered a → Ordered b → ResultsOf lesser a b (lesserOf a b)
-  pub greater : (a b : Range) → Ordered a → Ordered b → ResultsOf greater a b (greaterOf a b)
+  pub sum : (a b : Range) → NotReversed a → NotReversed b → ResultsOf (λ x y. x +ℤ y) a b (sumOf a b)
+  pub difference : (a b : Range) → NotReversed a → NotReversed b → ResultsOf (λ x y. x -ℤ y) a b (differenceOf a b)
+  pub multiple : (k : ℤ) (a : Range) → NotReversed a → ResultsOf (λ x y. k *ℤ x) a a (multipleOf k a)
+  pub lesser : (a b : Range) → NotReversed a → NotReversed b → ResultsOf lesser a b (lesserOf a b)
+  pub greater : (a b : Range) → NotReversed a → NotReversed b → ResultsOf greater a b (greaterOf a b)
 
 -- an instant's "int inputs .. inside their ranges"
 abbrev pub InputsInside : (file : List ℕ) → (table : List ℤ) → (inputs : List ℤ) → Type 0
@@ -67,7 +68,7 @@ answerInside file c =
     (checkAll (lowest (inputTyped file (c .inputs)) (streamsOf file)) 33 AtRecord
     (accepted tt)))
 
--- a session after calls, and any next call
+-- a session after calls, and any next call: each call of a list is the next one after those before it
 pub record StaysInside (file : List ℕ) (table : List ℤ) (s : Session) (done : List Answered) : Type 0 where
   pub values : (t : ℕ) → t < length done → ValuesInside file table (valuesIn (call done t .values))
   pub answers : (c : Call) → InputsInside file table (c .inputs) → answerTo s c ≡ answerInside file c

@@ -15,9 +15,9 @@ ghost use Prim.Native.Nat.{_≤_};
 ghost use mathlib.Core.Path.{_≡_};
 ghost use Rattle.answers.specs.Answer.{accepted, listedAnswer};
 ghost use Rattle.answers.specs.Checks.{every, lowest};
-ghost use Rattle.node.specs.Layout.{recordsOf};
+ghost use Rattle.node.specs.Layout.{recordsOf, propertyOf};
 ghost use Rattle.node.specs.Verdict.{verdictOf};
-ghost use Rattle.ranges.specs.Table.{EachBounded};
+ghost use Rattle.ranges.specs.Table.{AllSmall};
 ghost use Rattle.ranges.specs.Listing.{endsOk, resultsOk, tableVerdict, listingOf};
 
 // Each of the n streams has two ends as 71 asks.
@@ -37,7 +37,7 @@ fn are_ok(file: &[u8], n: usize, table: &[i64]) -> bool
 
 // 72, of stream i of n.
 fn is_listed(file: &[u8], n: usize, table: &[i64], i: usize) -> bool
-    requires { ⌜ (n ≡ recordsOf (now file)) × (i ≤ 64) × EachBounded (now table) ⌝ }
+    requires { ⌜ (n ≡ recordsOf (now file)) × (i ≤ 64) × AllSmall (now table) ⌝ }
     ensures { λ r. ⌜ r ≡ resultsOk (now (file .entry)) (now (table .entry)) i ⌝ }
 {
     match type_among(file, n, i) {
@@ -48,7 +48,7 @@ fn is_listed(file: &[u8], n: usize, table: &[i64], i: usize) -> bool
 
 // The lowest stream with results outside its range.
 fn first_outside(file: &[u8], n: usize, table: &[i64]) -> Found
-    requires { ⌜ (n ≡ recordsOf (now file)) × (n ≤ 64) × EachBounded (now table) ⌝ }
+    requires { ⌜ (n ≡ recordsOf (now file)) × (n ≤ 64) × AllSmall (now table) ⌝ }
     ensures { λ r. ⌜ r ≡ lowest (resultsOk (now (file .entry)) (now (table .entry))) n ⌝ }
 {
     let mut i = 0;
@@ -62,8 +62,8 @@ fn first_outside(file: &[u8], n: usize, table: &[i64]) -> Found
 }
 
 // The checks of an accepted node's table.
-fn listed_on(file: &[u8], n: usize, property: usize, table: &[i64]) -> ListedVerdict
-    requires { ⌜ verdictOf (now file) ≡ accepted (record { streams = n; property = property }) ⌝ }
+fn listed_on(file: &[u8], n: usize, table: &[i64]) -> ListedVerdict
+    requires { ⌜ verdictOf (now file) ≡ accepted (record { streams = n; property = propertyOf (now file) }) ⌝ }
     ensures { λ r. ⌜ listedAnswer r ≡ tableVerdict (now (file .entry)) (now (table .entry)) ⌝ }
 {
     if table.len() != 2 * n {
@@ -83,7 +83,10 @@ pub fn listed(file: &[u8], table: &[i64]) -> ListedVerdict
     ensures { λ r. ⌜ listedAnswer r ≡ listingOf (now (file .entry)) (now (table .entry)) ⌝ }
 {
     match verdict(file) {
-        NodeVerdict::Accepted { streams, property } => listed_on(file, streams, property, table),
+        NodeVerdict::Accepted {
+            streams,
+            property: _,
+        } => listed_on(file, streams, table),
         NodeVerdict::Refused(number, place) => ListedVerdict::Refused(number, place),
     }
 }

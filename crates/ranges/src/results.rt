@@ -7,7 +7,7 @@ use integers::lesser;
 use node::Equation;
 ghost use mathlib.Core.Path.{_≡_};
 ghost use mathlib.Core.Bool.{_&&_};
-ghost use Rattle.ranges.specs.Table.{rangeIn, Bounded, EachBounded};
+ghost use Rattle.ranges.specs.Table.{rangeIn, SmallEnds, AllSmall};
 ghost use Rattle.ranges.specs.Results.{isInside, single, sumOf, differenceOf, multipleOf, lesserOf, greaterOf, ends, allInside};
 
 // Whether a range lies inside another.
@@ -36,7 +36,7 @@ fn constant(k: i32) -> Range
 
 // a + b
 fn sum(a: Range, b: Range) -> Range
-    requires { ⌜ Bounded a × Bounded b ⌝ }
+    requires { ⌜ SmallEnds a × SmallEnds b ⌝ }
     ensures { λ r. ⌜ r ≡ sumOf a b ⌝ }
 {
     Range {
@@ -47,7 +47,7 @@ fn sum(a: Range, b: Range) -> Range
 
 // a - b
 fn difference(a: Range, b: Range) -> Range
-    requires { ⌜ Bounded a × Bounded b ⌝ }
+    requires { ⌜ SmallEnds a × SmallEnds b ⌝ }
     ensures { λ r. ⌜ r ≡ differenceOf a b ⌝ }
 {
     Range {
@@ -58,7 +58,7 @@ fn difference(a: Range, b: Range) -> Range
 
 // K * a
 fn multiple(k: i32, a: Range) -> Range
-    requires { ⌜ Bounded a ⌝ }
+    requires { ⌜ SmallEnds a ⌝ }
     ensures { λ r. ⌜ r ≡ multipleOf k a ⌝ }
 {
     let k = k as i64;
@@ -106,7 +106,7 @@ fn of(table: &[i64], s: u16) -> Range
 
 // 72, of an int stream: the results of its operator lie inside its range.
 pub fn results_inside(own: Range, e: Equation, table: &[i64]) -> bool
-    requires { ⌜ EachBounded (now table) ⌝ }
+    requires { ⌜ AllSmall (now table) ⌝ }
     ensures { λ z. ⌜ z ≡ allInside own (ends e (rangeIn (now (table .entry)))) ⌝ }
 {
     match e {

@@ -1,9 +1,11 @@
 -- `ranges::listed` meets its contract: the node's own refusals, then those of its table.
 -- Assumes nothing.
 use mathlib.Core.Path.{_≡_, sym, _∙_, ap}
+use Prim.Native.Nat.{ℕ}
 use denote.Ref.{now}
-use Rattle.answers.specs.Answer.{accepted, nodeAnswer}
+use Rattle.answers.specs.Answer.{accepted, NodeValues, nodeAnswer}
 use Rattle.node.specs.Verdict.{verdictOf}
+use Rattle.node.proofs.Outcomes.{accepted-values}
 use Rattle.ranges.specs.Listing.{listingOf}
 use borrow.Author.Needs.{needs}
 use Rattle.ranges.proofs.listing.listed.Statement.{statement}
@@ -20,7 +22,9 @@ accepted-is : (c : tie.After-known-told) → verdictOf (now (c .before .before .
 accepted-is c = sym (c .before .before .before .verdict .ensures) ∙ ap nodeAnswer (c .before .streams .given .1)
 
 listed-on-requires : tie.Need-listed-on-requires
-listed-on-requires c κs = accepted-is c
+listed-on-requires c κs =
+    let values = accepted-values _ (accepted-is c) in
+    accepted-is c ∙ ap (λ (p : ℕ). accepted (record { streams = c .before .streams .given .0 .0; property = p })) (ap (λ (v : NodeValues). v .property) values)
 
 enum-known-number : tie.Need-enum-known-number
 enum-known-number c = search needs

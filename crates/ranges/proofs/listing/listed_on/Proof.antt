@@ -15,7 +15,7 @@ use Rattle.node.specs.Layout.{streamsOf, recordsOf}
 use Rattle.node.proofs.Notes.{accepted-count, accepted-sizes}
 use Rattle.node.proofs.Outcomes.{accepted-values}
 use Rattle.ranges.specs.Listing.{endsOk, tableVerdict}
-use Rattle.ranges.proofs.Tables.{wrong-length, wrong-ends, by-results, each-bounded}
+use Rattle.ranges.proofs.Tables.{wrong-length, wrong-ends, by-results, all-small}
 use borrow.Author.Needs.{needs}
 use Rattle.ranges.proofs.listing.listed_on.Statement.{statement}
 use Rattle.ranges.proofs.listing.listed_on.Tie as tie
@@ -57,7 +57,7 @@ ok-is c = sym (c .before .are-ok .ensures) ∙ not-false _ (c .if2 .left)
 first-outside-requires : tie.Need-first-outside-requires
 first-outside-requires c κs =
     let s = c .before .before .before .before in
-    (count-is s, few s, each-bounded _ (now (s .args .table)) _ (size-is (c .before .before)) (ok-is c))
+    (count-is s, few s, all-small _ (now (s .args .table)) _ (size-is (c .before .before)) (ok-is c))
 
 -- the answer, by what the search found
 found-is : (c : tie.After-first-outside) {found : Found} → c .first-outside .result ≡ found → let s = c .before .before .before .before .before in checkAll found 72 AtRecord (accepted tt) ≡ tableVerdict (now (s .args .file)) (now (s .args .table))

@@ -5,7 +5,7 @@ use mir.Syntax.{w32}
 use mir.Val.{SFits}
 use mir.Facts.{toZ-ofZ}
 use Rattle.ranges.specs.Results.{allInside, single, sumOf, differenceOf, multipleOf, lesserOf, greaterOf}
-use Rattle.ranges.specs.Table.{Bounded}
+use Rattle.ranges.specs.Table.{SmallEnds}
 use Rattle.ranges.proofs.Insides.{one-inside, two-inside}
 use borrow.Author.Needs.{needs}
 use Rattle.ranges.proofs.results.results_inside.Statement.{statement}
@@ -47,7 +47,7 @@ of-requires-2 c κs = search needs
 sum-requires : tie.Need-sum-requires
 sum-requires c κs =
     let s = c .before .before .before .before .before in
-    (subst Bounded (sym (c .before .of .ensures)) (s .pre _), subst Bounded (sym (c .of2 .ensures)) (s .pre _))
+    (subst SmallEnds (sym (c .before .of .ensures)) (s .pre _), subst SmallEnds (sym (c .of2 .ensures)) (s .pre _))
 
 is-inside-requires-2 : tie.Need-is-inside-requires-2
 is-inside-requires-2 c κs = search needs
@@ -64,7 +64,7 @@ of-requires-4 c κs = search needs
 difference-requires : tie.Need-difference-requires
 difference-requires c κs =
     let s = c .before .before .before .before .before in
-    (subst Bounded (sym (c .before .of3 .ensures)) (s .pre _), subst Bounded (sym (c .of4 .ensures)) (s .pre _))
+    (subst SmallEnds (sym (c .before .of3 .ensures)) (s .pre _), subst SmallEnds (sym (c .of4 .ensures)) (s .pre _))
 
 is-inside-requires-3 : tie.Need-is-inside-requires-3
 is-inside-requires-3 c κs = search needs
@@ -76,7 +76,7 @@ of-requires-5 : tie.Need-of-requires-5
 of-requires-5 c κs = search needs
 
 multiple-requires : tie.Need-multiple-requires
-multiple-requires c κs = subst Bounded (sym (c .of5 .ensures)) (c .before .before .before .before .pre _)
+multiple-requires c κs = subst SmallEnds (sym (c .of5 .ensures)) (c .before .before .before .before .pre _)
 
 is-inside-requires-4 : tie.Need-is-inside-requires-4
 is-inside-requires-4 c κs = search needs
