@@ -5,6 +5,7 @@ use mathlib.Core.Bool.{true, false≢true}
 use Rattle.answers.specs.Answer.{Answer, accepted, refused, isAccepted}
 use Rattle.node.specs.Verdict.{verdictOf as nodeVerdict}
 use Rattle.rules.specs.Verdict.{verdictOf}
+use Rattle.rules.specs.Versions.{version2}
 use Rattle.session.proofs.Sessions.{sessions-exact}
 use Rattle.node.proofs.Outcomes.{keeps-accepted}
 use Rattle.ranges.specs.Listing.{listingOf}
@@ -27,7 +28,7 @@ exported-sessions-exact file told =
 pub exported-demand-3 : ExportedDemand3
 unfolding toldNode
 exported-demand-3 node cert told before calls =
-    let values = accepted-with (verdictOf node cert) (zero .certificate node cert told) in
+    let values = accepted-with (verdictOf version2 node cert) (zero .certificate node cert told) in
     let demanded = demand-3 node cert (values .0) (values .1) before calls in
     (ap (λ a. toldNode a .number) (demanded .begins), demanded)
 

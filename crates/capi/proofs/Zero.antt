@@ -33,6 +33,7 @@ use Rattle.constraints.specs.Layout.{trailerOf, lineOf}
 use Rattle.constraints.specs.Rules.{fixedOk, countsOk, distanceOk}
 use Rattle.rules.specs.Lines.{hasEmpty}
 use Rattle.rules.specs.Verdict.{linesOf, baseOf, stepOf, constraintPasses, lineFault, linePasses, checkLines, partsVerdict, linesVerdict, constraintsVerdict, fileVerdict, beforeLines, verdictOf}
+use Rattle.rules.specs.Versions.{version2}
 use Rattle.capi.specs.declared.told.Told.{Told}
 use Rattle.capi.specs.Answers.{toldAccepted, toldOf, toldNode, toldCertificate, toldPlain}
 use Rattle.capi.specs.Theorems.{ZeroAccepts}
@@ -83,23 +84,23 @@ lines (At i) number rest l n = above CertificateValues (number i) (AtLine i) (l 
 lines Nothing number rest l n = n
 
 -- the number of a line that breaks a rule
-line-above : (node cert : List ℕ) (i : ℕ) → lowest (linePasses node cert) (linesOf cert) ≡ At i → 0 < lineFault node cert i
-line-above node cert i e = omega (arith, eqb-false (lineFault node cert i) 0 (first _ _ _ e .fails))
+line-above : (node cert : List ℕ) (i : ℕ) → lowest (linePasses version2 node cert) (linesOf cert) ≡ At i → 0 < lineFault version2 node cert i
+line-above node cert i e = omega (arith, eqb-false (lineFault version2 node cert i) 0 (first _ _ _ e .fails))
 
-lines-numbered : (node cert : List ℕ) → Numbered (linesVerdict node cert)
+lines-numbered : (node cert : List ℕ) → Numbered (linesVerdict version2 node cert)
 unfolding linesVerdict partsVerdict
 lines-numbered node cert =
-    lines (lowest (linePasses node cert) (linesOf cert)) (lineFault node cert) _ (line-above node cert)
-    (tested (hasEmpty (lineOf cert) (baseOf node cert)) 21 Base _ (omega arith)
+    lines (lowest (linePasses version2 node cert) (linesOf cert)) (lineFault version2 node cert) _ (line-above node cert)
+    (tested (hasEmpty (lineOf cert) (baseOf version2 node cert)) 21 Base _ (omega arith)
     (tested (hasEmpty (lineOf cert) (stepOf node cert)) 21 Step _ (omega arith)
     (none _)))
 
-file-numbered : (node cert : List ℕ) → Numbered (fileVerdict node cert)
+file-numbered : (node cert : List ℕ) → Numbered (fileVerdict version2 node cert)
 unfolding fileVerdict constraintsVerdict
 file-numbered node cert =
     let t = trailerOf cert in
     tested (lengthOk (length cert)) 11 File _ (omega arith)
-    (tested (fixedOk t) 12 File _ (omega arith)
+    (tested (fixedOk 2 t) 12 File _ (omega arith)
     (tested (countsOk t) 13 File _ (omega arith)
     (tested (distanceOk t (length cert)) 14 File _ (omega arith)
     (tested-all (lowest (constraintPasses node cert) (t .constraints)) 15 AtConstraint _ (omega arith)
@@ -110,11 +111,11 @@ unfolding Numbered
 after (accepted v) b n m = m
 after (refused number place) b n m = n
 
-verdict-numbered : (node cert : List ℕ) → Numbered (verdictOf node cert)
+verdict-numbered : (node cert : List ℕ) → Numbered (verdictOf version2 node cert)
 unfolding verdictOf beforeLines
 verdict-numbered node cert =
-    after (beforeLines node cert) (linesVerdict node cert)
-    (after (nodeVerdict node) (fileVerdict node cert) (node-numbered node) (file-numbered node cert)) (lines-numbered node cert)
+    after (beforeLines version2 node cert) (linesVerdict version2 node cert)
+    (after (nodeVerdict node) (fileVerdict version2 node cert) (node-numbered node) (file-numbered node cert)) (lines-numbered node cert)
 
 instant-numbered : (s : Session) (inputs : List ℤ) (room : ℕ) → Numbered (answerOf s inputs room)
 unfolding answerOf
@@ -146,7 +147,7 @@ unfolding toldNode toldCertificate toldPlain
 zero =
     record {
       node = λ file. zero-accepts (λ (v : NodeValues). toldAccepted (v .streams) (v .property) 0) (nodeVerdict file) (node-numbered file);
-      certificate = λ node cert. zero-accepts (λ (v : CertificateValues). toldAccepted (v .depth) (v .base) (v .step)) (verdictOf node cert) (verdict-numbered node cert);
+      certificate = λ node cert. zero-accepts (λ (v : CertificateValues). toldAccepted (v .depth) (v .base) (v .step)) (verdictOf version2 node cert) (verdict-numbered node cert);
       instant = λ s inputs room. zero-accepts (λ (_ : Unit {0}). toldAccepted 0 0 0) (answerOf s inputs room) (instant-numbered s inputs room);
       ranges = λ file table. zero-accepts (λ (_ : Unit {0}). toldAccepted 0 0 0) (listingOf file table) (listing-numbered file table);
     }

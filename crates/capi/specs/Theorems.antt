@@ -13,6 +13,7 @@ use Rattle.session.specs.Lists.{Call, afterAll, answered, call}
 use Rattle.session.specs.Records.{begunOf}
 use Rattle.session.specs.Theorems.{Shows, Exact}
 use Rattle.rules.specs.Verdict.{verdictOf}
+use Rattle.rules.specs.Versions.{version2}
 use Rattle.ranges.specs.Listing.{listingOf}
 use Rattle.ranges.specs.Theorems.{InputsInside, StaysInside}
 use Rattle.soundness.specs.Demands.{Demanded}
@@ -31,7 +32,7 @@ pub record NumbersTell : Type 0 where
 -- number 0 says accepted
 pub record ZeroAccepts : Type 0 where
   pub node : (file : List ℕ) → toldNode (nodeVerdict file) .number ≡ 0 → isAccepted (nodeVerdict file) ≡ true
-  pub certificate : (node cert : List ℕ) → toldCertificate (verdictOf node cert) .number ≡ 0 → isAccepted (verdictOf node cert) ≡ true
+  pub certificate : (node cert : List ℕ) → toldCertificate (verdictOf version2 node cert) .number ≡ 0 → isAccepted (verdictOf version2 node cert) ≡ true
   pub instant : (s : Session) (inputs : List ℤ) (room : ℕ) → toldPlain (answerOf s inputs room) .number ≡ 0 → isAccepted (answerOf s inputs room) ≡ true
   pub ranges : (file : List ℕ) (table : List ℤ) → toldPlain (listingOf file table) .number ≡ 0 → isAccepted (listingOf file table) ≡ true
 
@@ -46,7 +47,7 @@ ExportedSessionsExact =
 -- demand 3 of the exported calls: the beginning's number is 0 too
 abbrev pub ExportedDemand3 : Type 0
 ExportedDemand3 =
-    (node cert : List ℕ) → toldCertificate (verdictOf node cert) .number ≡ 0
+    (node cert : List ℕ) → toldCertificate (verdictOf version2 node cert) .number ≡ 0
     → (before : Session) (calls : List Call)
     → (toldNode (nodeVerdict node) .number ≡ 0) × Demanded node before calls
 

@@ -9,6 +9,7 @@ ghost use Rattle.node.specs.Verdict.{verdictOf as nodeVerdictOf};
 ghost use Rattle.ranges.specs.Listing.{listingOf};
 ghost use Rattle.rules.specs.Note.{noteLength as certificateNoteLength};
 ghost use Rattle.rules.specs.Verdict.{verdictOf};
+ghost use Rattle.rules.specs.Versions.{version2};
 ghost use Rattle.capi.specs.Answers.{toldNode, toldCertificate, toldPlain};
 
 // The verdict on a node file.
@@ -22,7 +23,7 @@ pub extern "C" fn conuhawe_read(node: &[u8]) -> Told
 // The verdict on a node file and a certificate.
 #[no_mangle]
 pub extern "C" fn conuhawe_check(node: &[u8], cert: &[u8]) -> Told
-    ensures { λ r. ⌜ r ≡ toldCertificate (verdictOf (now (node .entry)) (now (cert .entry))) ⌝ }
+    ensures { λ r. ⌜ r ≡ toldCertificate (verdictOf version2 (now (node .entry)) (now (cert .entry))) ⌝ }
 {
     told_certificate(certificate::verdict(node, cert))
 }
@@ -46,7 +47,7 @@ pub extern "C" fn conuhawe_node_note(node: &[u8]) -> usize
 // How many leading bytes of a certificate are its note; 0 where 11 to 14 refuse it.
 #[no_mangle]
 pub extern "C" fn conuhawe_certificate_note(cert: &[u8]) -> usize
-    ensures { λ r. ⌜ r ≡ certificateNoteLength (now (cert .entry)) ⌝ }
+    ensures { λ r. ⌜ r ≡ certificateNoteLength version2 (now (cert .entry)) ⌝ }
 {
     certificate::note_length(cert)
 }

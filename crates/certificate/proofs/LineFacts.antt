@@ -18,6 +18,7 @@ use Rattle.rules.specs.Cuts.{cutOk}
 use Rattle.rules.specs.Joins.{joinOk}
 use Rattle.rules.specs.Lines.{equationIn, shapeOk}
 use Rattle.rules.specs.Verdict.{typesOfNode, shapePasses, equationPasses, propertyPasses, joinPasses, arithmeticPasses, cutPasses}
+use Rattle.rules.specs.Versions.{version2}
 use Rattle.rules.proofs.ConstraintLimits.{Few, limited}
 use Rattle.rules.proofs.CertificateFacts.{few-streams}
 use Rattle.rules.proofs.LineParts.{from-is}
@@ -68,17 +69,17 @@ module _ (node cert : List ℕ) (f : Frame) (ch : Checking node cert f) where
   pub join-is : (i : ℕ) → joinOk (linesAt cert (f .lines)) (partIn f i .from) i ≡ joinPasses cert i
   join-is i =
       ap₂ (λ (g : Frame) (of : ℕ → Line). joinOk of (partIn g i .from) i) (ch .frame) lines
-      ∙ ap (λ (from : ℕ). joinOk (lineOf cert) from i) (from-is cert (propertyOf node) i)
+      ∙ ap (λ (from : ℕ). joinOk (lineOf cert) from i) (from-is version2 cert (propertyOf node) i)
 
   -- line i, which stands at an offset
   module _ (i at : ℕ) (e : at ≡ f .lines + 80 * i) where
     line-here : lineAt cert at ≡ lineOf cert i
     line-here = ap (lineAt cert) e ∙ ap (λ (of : ℕ → Line). of i) lines
 
-    pub equation-is : equationIn (f .streams) (typeAt node) (equationAt node) (constraintsFrom cert (f .start)) (f .constraints) (partIn f i .offsets) (partIn f i .opening) (lineAt cert at) ≡ equationPasses node cert i
+    pub equation-is : equationIn version2 (f .streams) (typeAt node) (equationAt node) (constraintsFrom cert (f .start)) (f .constraints) (partIn f i .offsets) (partIn f i .opening) (lineAt cert at) ≡ equationPasses version2 node cert i
     equation-is =
         ap₂
-        (λ (g : Frame) (line : Line). equationIn (g .streams) (typeAt node) (equationAt node) (constraintsFrom cert (g .start)) (g .constraints) (partIn g i .offsets) (partIn g i .opening) line)
+        (λ (g : Frame) (line : Line). equationIn version2 (g .streams) (typeAt node) (equationAt node) (constraintsFrom cert (g .start)) (g .constraints) (partIn g i .offsets) (partIn g i .opening) line)
         (ch .frame) line-here
 
     pub arithmetic-is : arithmeticOk (constraintsFrom cert (f .start)) (lineAt cert at) ≡ arithmeticPasses cert i
@@ -107,7 +108,7 @@ module _ (node cert : List ℕ) (f : Frame) (ch : Checking node cert f) where
           ap₂ (λ (g : Frame) (line : Line). shapeOk (typesOf types) (g .depth) (g .constraints) line) (ch .frame) line-is
           ∙ ap (λ (of : Types). shapeOk of (trailerOf cert .depth) (trailerOf cert .constraints) (lineOf cert i)) (fun-ext are-types)
 
-      pub property-is : partIn f i .property (lineWith cert at h) ≡ propertyPasses node cert i
+      pub property-is : partIn f i .property (lineWith cert at h) ≡ propertyPasses version2 node cert i
       property-is = ap₂ (λ (g : Frame) (line : Line). partIn g i .property line) (ch .frame) line-is
 
   -- lines 0 to i, each of which has passed rule 16

@@ -18,6 +18,7 @@ use Rattle.constraints.specs.Ready.{Ready}
 use Rattle.constraints.specs.Rules.{Types, typesOf, constraintPasses as passesFrom}
 use Rattle.rules.specs.Types.{typesBelow}
 use Rattle.rules.specs.Verdict.{typesOfNode, constraintPasses, fileVerdict}
+use Rattle.rules.specs.Versions.{version2}
 use Rattle.rules.proofs.FileFacts.{FileFacts, file-facts, file-passed}
 use Rattle.rules.proofs.Outcomes.{file-opens}
 use Rattle.certificate.specs.declared.frame.Frame.{Frame}
@@ -46,7 +47,7 @@ node-types node types n property passed are-types x = rw (← (passed .streams))
 
 module _ (cert : List ℕ) (t : Trailer) (of-file : FilePassed cert t) where
   facts : FileFacts cert
-  facts = file-facts cert (of-file .file)
+  facts = file-facts version2 cert (of-file .file)
 
   pub start-room : (t ≡ trailerOf cert) × (sizeOf (trailerOf cert) ≤ length cert)
   start-room = (of-file .trailer, facts .room)
@@ -69,18 +70,18 @@ pub unopened : (t : Trailer) (a : Answer (Unit {0})) (number : ℕ) (place : Pla
 unopened t (accepted v) number place e = let z : _≡_ {A = ℕ} 0 1 = cc in absurd (omega arith)
 unopened t (refused m at) number place e = cc
 
-module _ (node cert : List ℕ) (t : Trailer) (n property : ℕ) (of-node : NodePassed node n property) (e : Passed t ≡ openingOf (trailerOf cert) (fileVerdict node cert)) where
-  pub file-accepted : fileVerdict node cert ≡ accepted tt
-  file-accepted = opened t (trailerOf cert) (fileVerdict node cert) e .0
+module _ (node cert : List ℕ) (t : Trailer) (n property : ℕ) (of-node : NodePassed node n property) (e : Passed t ≡ openingOf (trailerOf cert) (fileVerdict version2 node cert)) where
+  pub file-accepted : fileVerdict version2 node cert ≡ accepted tt
+  file-accepted = opened t (trailerOf cert) (fileVerdict version2 node cert) e .0
 
   ready : Ready (typesOfNode node) cert
   ready =
-      let b = file-opens node cert (of-node .node-rules) file-accepted in
-      let f = file-facts cert (file-passed cert (b .file .size) (b .file .fixed) (b .file .counts) (b .file .distance)) in
+      let b = file-opens version2 node cert (of-node .node-rules) file-accepted in
+      let f = file-facts version2 cert (file-passed version2 cert (b .file .size) (b .file .fixed) (b .file .counts) (b .file .distance)) in
       record { room = f .room; most = f .most; least = f .some; deep = f .deep; few = f .few; constraints = b .constraints }
 
   pub frame-room : (t ≡ trailerOf cert) × (sizeOf (trailerOf cert) ≤ length cert)
-  frame-room = (opened t (trailerOf cert) (fileVerdict node cert) e .1, ready .room)
+  frame-room = (opened t (trailerOf cert) (fileVerdict version2 node cert) e .1, ready .room)
 
   pub checking : (f : Frame) → f ≡ frameOf cert n property → Checking node cert f
   checking f g =

@@ -9,6 +9,7 @@ use Rattle.answers.specs.Checks.{every}
 use Rattle.constraints.specs.Layout.{Line, trailerOf, lineOf}
 use Rattle.rules.specs.Lines.{hasLiterals, hasEmpty}
 use Rattle.rules.specs.Verdict.{baseOf, stepOf}
+use Rattle.rules.specs.Versions.{version2}
 use Rattle.certificate.specs.declared.frame.Frame.{Frame}
 use Rattle.certificate.specs.Frame.{frameOf}
 use Rattle.certificate.specs.Ready.{linesAt}
@@ -22,7 +23,7 @@ module _ (cert : List ℕ) (f : Frame) (e : f ≡ frameOf cert (f .streams) (f .
   lines : linesAt cert (f .lines) ≡ lineOf cert
   lines = lines-are cert f _ _ e
 
-  pub empty-base : emptyAmong (linesAt cert (f .lines)) 0 (f .base) ≡ hasEmpty (lineOf cert) (baseOf node cert)
+  pub empty-base : emptyAmong (linesAt cert (f .lines)) 0 (f .base) ≡ hasEmpty (lineOf cert) (baseOf version2 node cert)
   empty-base =
       ap₂ (λ (of : ℕ → Line) (g : Frame). emptyAmong of 0 (g .base)) lines e
       ∙ ap (emptyAmong (lineOf cert) 0) (sym (sub-zero (trailerOf cert .base)))

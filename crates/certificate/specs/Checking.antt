@@ -12,6 +12,7 @@ use Rattle.constraints.specs.Ready.{Ready}
 use Rattle.answers.specs.Answer.{Answer, accepted, refused}
 use Rattle.rules.specs.Note.{fileOk}
 use Rattle.rules.specs.Verdict.{typesOfNode}
+use Rattle.rules.specs.Versions.{version2}
 use Rattle.certificate.specs.declared.frame.Frame.{Frame}
 use Rattle.certificate.specs.declared.reading.Opened.{Opened}
 use Rattle.certificate.specs.declared.reading.Opened.the-variants.{Passed, Refused}
@@ -26,7 +27,7 @@ pub record NodePassed (node : List ℕ) (n property : ℕ) : Type 0 where
 -- rules 11 to 14 have passed, and the trailer is at hand
 pub record FilePassed (cert : List ℕ) (t : Trailer) : Type 0 where
   pub trailer : t ≡ trailerOf cert
-  pub file : fileOk cert ≡ true
+  pub file : fileOk version2 cert ≡ true
 
 -- all of them have passed, and what was read of both files is at hand
 pub record Checking (node cert : List ℕ) (f : Frame) : Type 0 where

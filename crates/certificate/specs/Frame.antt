@@ -5,6 +5,7 @@ use mathlib.Core.List.{List}
 use lib.Dec.{ltb}
 use Rattle.constraints.specs.Layout.{trailerOf, startOf}
 use Rattle.rules.specs.Lines.{Window, baseWindow, stepWindow}
+use Rattle.rules.specs.Versions.{version2}
 use Rattle.certificate.specs.declared.frame.Frame.{Frame}
 
 -- of a certificate, for a node of so many streams and its property stream
@@ -25,4 +26,4 @@ frameOf cert streams property =
 -- the part that line i stands in
 abbrev pub partIn : Frame → (i : ℕ) → Window
 partIn f i =
-    cond (ltb i (f .base)) (baseWindow (f .depth) (f .property) (f .base)) (stepWindow (f .depth) (f .property) (f .base) (f .step))
+    cond (ltb i (f .base)) (baseWindow version2 (f .depth) (f .property) (f .base)) (stepWindow (f .depth) (f .property) (f .base) (f .step))

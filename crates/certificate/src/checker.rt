@@ -12,6 +12,7 @@ ghost use lib.ListN.{length};
 ghost use Rattle.answers.specs.Answer.{certificateAnswer};
 ghost use Rattle.constraints.specs.Rules.{typesOf};
 ghost use Rattle.rules.specs.Verdict.{typesOfNode, partsVerdict, linesVerdict};
+ghost use Rattle.rules.specs.Versions.{version2};
 ghost use Rattle.certificate.specs.Checking.{Checking};
 ghost use Rattle.certificate.specs.Frame.{frameOf};
 
@@ -19,7 +20,7 @@ ghost use Rattle.certificate.specs.Frame.{frameOf};
 fn parts_verdict(cert: &[u8], f: Frame) -> CertificateVerdict
     requires { ⌜ f ≡ frameOf (now cert) (f .streams) (f .property) ⌝ }
     requires { ⌜ f .lines + 80 * (f .base + f .step) ≤ length (now cert) ⌝ }
-    ensures { λ r. ⌜ ((node : List ℕ) → certificateAnswer r ≡ partsVerdict node (now (cert .entry))) ⌝ }
+    ensures { λ r. ⌜ ((node : List ℕ) → certificateAnswer r ≡ partsVerdict version2 node (now (cert .entry))) ⌝ }
 {
     let base = f.base;
     let step = f.step;
@@ -36,7 +37,7 @@ fn parts_verdict(cert: &[u8], f: Frame) -> CertificateVerdict
 // Rules 16 to 22: lines taken one at a time. One array of sums serves all, since each line that passes leaves it at zero.
 pub fn lines_verdict(node: &[u8], cert: &[u8], types: &[u8], f: Frame) -> CertificateVerdict
     requires { ⌜ Checking (now node) (now cert) f × ((x : ℕ) → typesOf (now types) x ≡ typesOfNode (now node) x) ⌝ }
-    ensures { λ r. ⌜ certificateAnswer r ≡ linesVerdict (now (node .entry)) (now (cert .entry)) ⌝ }
+    ensures { λ r. ⌜ certificateAnswer r ≡ linesVerdict version2 (now (node .entry)) (now (cert .entry)) ⌝ }
 {
     let lines = f.base + f.step;
     let mut sums = [0i64; 576];

@@ -14,6 +14,7 @@ ghost use Rattle.node.specs.Equations.{typeAt, equationAt};
 ghost use Rattle.node.specs.Layout.{recordsOf};
 ghost use Rattle.constraints.specs.Layout.{lineAt, constraintsFrom};
 ghost use Rattle.rules.specs.Lines.{positionOf, equationIn};
+ghost use Rattle.rules.specs.Versions.{version2};
 ghost use Rattle.matching.specs.Content.{Readable};
 ghost use Rattle.certificate.specs.Constants.{ConstantsLimited};
 
@@ -36,7 +37,7 @@ pub fn equation_ok(
 ) -> bool
     requires { ⌜ Readable (now cert) (f .start) (f .constraints) × (at + 80 ≤ length (now cert)) ⌝ }
     requires { ⌜ ConstantsLimited (now node) (f .streams) × (offsets ≤ 9) × (f .streams ≡ recordsOf (now node)) ⌝ }
-    ensures { λ r. ⌜ r ≡ equationIn (f .streams) (typeAt (now (node .entry))) (equationAt (now (node .entry))) (constraintsFrom (now (cert .entry)) (f .start)) (f .constraints) offsets opening (lineAt (now (cert .entry)) at) ⌝ }
+    ensures { λ r. ⌜ r ≡ equationIn version2 (f .streams) (typeAt (now (node .entry))) (equationAt (now (node .entry))) (constraintsFrom (now (cert .entry)) (f .start)) (f .constraints) offsets opening (lineAt (now (cert .entry)) at) ⌝ }
 {
     let n = f.streams;
     let h = line_head(cert, at);

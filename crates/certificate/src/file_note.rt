@@ -8,10 +8,11 @@ use node::length_ok;
 ghost use mathlib.Core.Path.{_≡_};
 ghost use lib.ListN.{take};
 ghost use Rattle.rules.specs.Note.{fileOk, noteLength};
+ghost use Rattle.rules.specs.Versions.{version2};
 
 // Rules 11 to 14.
 fn file_ok(cert: &[u8]) -> bool
-    ensures { λ r. ⌜ r ≡ fileOk (now (cert .entry)) ⌝ }
+    ensures { λ r. ⌜ r ≡ fileOk version2 (now (cert .entry)) ⌝ }
 {
     let size = cert.len();
     if !length_ok(size) {
@@ -23,7 +24,7 @@ fn file_ok(cert: &[u8]) -> bool
 
 // How long the note is; 0 where rules 11 to 14 refuse the file.
 pub fn note_length(cert: &[u8]) -> usize
-    ensures { λ r. ⌜ r ≡ noteLength (now (cert .entry)) ⌝ }
+    ensures { λ r. ⌜ r ≡ noteLength version2 (now (cert .entry)) ⌝ }
 {
     if !file_ok(cert) {
         return 0;
@@ -33,7 +34,7 @@ pub fn note_length(cert: &[u8]) -> usize
 
 // The note itself.
 pub fn note(cert: &[u8]) -> &[u8]
-    ensures { λ r. ⌜ now r ≡ take (noteLength (now (cert .entry))) (now (cert .entry)) ⌝ }
+    ensures { λ r. ⌜ now r ≡ take (noteLength version2 (now (cert .entry))) (now (cert .entry)) ⌝ }
 {
     let n = note_length(cert);
     &cert[..n]

@@ -23,6 +23,7 @@ ghost use Rattle.constraints.specs.Rules.{typesOf};
 ghost use Rattle.rules.specs.Joins.{joinOk};
 ghost use Rattle.rules.specs.Lines.{equationIn};
 ghost use Rattle.rules.specs.Verdict.{typesOfNode, shapePasses, ownFault, lineFault, linePasses};
+ghost use Rattle.rules.specs.Versions.{version2};
 ghost use Rattle.certificate.specs.Checking.{Checking};
 ghost use Rattle.certificate.specs.Frame.{partIn};
 ghost use Rattle.certificate.specs.Ready.{LinesReady, linesAt};
@@ -30,13 +31,13 @@ ghost use Rattle.certificate.specs.Ready.{LinesReady, linesAt};
 // Rule 17, of line i, which stands at an offset.
 fn equation_passes(node: &[u8], cert: &[u8], f: Frame, at: usize, i: usize) -> bool
     requires { ⌜ Checking (now node) (now cert) f × (at + 80 ≤ length (now cert)) ⌝ }
-    ensures { λ r. ⌜ r ≡ equationIn (f .streams) (typeAt (now (node .entry))) (equationAt (now (node .entry))) (constraintsFrom (now (cert .entry)) (f .start)) (f .constraints) (partIn f i .offsets) (partIn f i .opening) (lineAt (now (cert .entry)) at) ⌝ }
+    ensures { λ r. ⌜ r ≡ equationIn version2 (f .streams) (typeAt (now (node .entry))) (equationAt (now (node .entry))) (constraintsFrom (now (cert .entry)) (f .start)) (f .constraints) (partIn f i .offsets) (partIn f i .opening) (lineAt (now (cert .entry)) at) ⌝ }
 {
-    let depth = f.depth as usize;
+    let offsets = f.depth as usize + 1;
     if i < f.base {
-        equation_ok(node, cert, f, at, depth, Position::Opening)
+        equation_ok(node, cert, f, at, offsets, Position::Opening)
     } else {
-        equation_ok(node, cert, f, at, depth + 1, Position::Unsure)
+        equation_ok(node, cert, f, at, offsets, Position::Entry)
     }
 }
 
@@ -84,7 +85,7 @@ fn own_fault(
     requires { ⌜ Checking (now node) (now cert) f × (at ≡ f .lines + 80 * i) × (h ≡ lineHeadAt (now cert) at) ⌝ }
     requires { ⌜ (shapePasses (now node) (now cert) i ≡ true) × LinesReady (now cert) (f .lines) i ⌝ }
     requires { ⌜ now sums ≡ replicate 576 (pos 0) ⌝ }
-    ensures answer { λ r. ⌜ r ≡ ownFault (now (node .entry)) (now (cert .entry)) i ⌝ }
+    ensures answer { λ r. ⌜ r ≡ ownFault version2 (now (node .entry)) (now (cert .entry)) i ⌝ }
     ensures cleared { λ r. ⌜ (r ≡ 0 → now (sums .exit) ≡ replicate 576 (pos 0)) ⌝ }
 {
     let kind = h.kind;
@@ -119,9 +120,9 @@ pub fn line_fault(
     i: usize,
 ) -> usize
     requires { ⌜ Checking (now node) (now cert) f × ((x : ℕ) → typesOf (now types) x ≡ typesOfNode (now node) x) ⌝ }
-    requires { ⌜ (i < f .base + f .step) × ((j : ℕ) → j < i → linePasses (now node) (now cert) j ≡ true) ⌝ }
+    requires { ⌜ (i < f .base + f .step) × ((j : ℕ) → j < i → linePasses version2 (now node) (now cert) j ≡ true) ⌝ }
     requires { ⌜ now sums ≡ replicate 576 (pos 0) ⌝ }
-    ensures answer { λ r. ⌜ r ≡ lineFault (now (node .entry)) (now (cert .entry)) i ⌝ }
+    ensures answer { λ r. ⌜ r ≡ lineFault version2 (now (node .entry)) (now (cert .entry)) i ⌝ }
     ensures cleared { λ r. ⌜ (r ≡ 0 → now (sums .exit) ≡ replicate 576 (pos 0)) ⌝ }
 {
     let at = block_at(f.lines, i);

@@ -10,13 +10,13 @@ ghost use Rattle.answers.specs.Checks.{every};
 ghost use Rattle.constraints.specs.Layout.{literalAt, lineWith};
 ghost use Rattle.rules.specs.Lines.{notPropertyAt, basePropertyOk, stepPropertyOk};
 
-// The first k literals of the line at an offset are not-prop at offsets 0 to k - 1.
-fn are_not_property(file: &[u8], at: usize, k: usize, prop: u16) -> bool
-    requires { ⌜ (at + 80 ≤ length (now file)) × (k ≤ 8) ⌝ }
-    ensures { λ r. ⌜ r ≡ every (notPropertyAt prop (literalAt (now (file .entry)) at)) k ⌝ }
+// The first n literals of the line at an offset are not-prop at offsets 0 to n - 1.
+fn are_not_property(file: &[u8], at: usize, n: usize, prop: u16) -> bool
+    requires { ⌜ (at + 80 ≤ length (now file)) × (n ≤ 9) ⌝ }
+    ensures { λ r. ⌜ r ≡ every (notPropertyAt prop (literalAt (now (file .entry)) at)) n ⌝ }
 {
     let mut j = 0;
-    while j < k {
+    while j < n {
         let not_prop = Literal::negative(var(j as u8, prop));
         if literal_at(file, at, j).0 != not_prop.0 {
             return false;
@@ -26,12 +26,13 @@ fn are_not_property(file: &[u8], at: usize, k: usize, prop: u16) -> bool
     true
 }
 
-// A property line of the base, at depth k.
+// A property line of the base, at depth k: it covers offset k too.
 pub fn base_property_ok(file: &[u8], at: usize, h: LineHead, k: u8, prop: u16) -> bool
     requires { ⌜ (at + 80 ≤ length (now file)) × (k ≤ 8) ⌝ }
-    ensures { λ r. ⌜ r ≡ basePropertyOk k prop (lineWith (now (file .entry)) at h) ⌝ }
+    ensures { λ r. ⌜ r ≡ basePropertyOk (k + 1) prop (lineWith (now (file .entry)) at h) ⌝ }
 {
-    (h.q == 0) & (h.count == k) & are_not_property(file, at, k as usize, prop)
+    let n = k + 1;
+    (h.q == 0) & (h.count == n) & are_not_property(file, at, n as usize, prop)
 }
 
 // A property line of the step, at depth k.

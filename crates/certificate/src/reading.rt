@@ -22,6 +22,7 @@ ghost use Rattle.answers.specs.Checks.{andThen};
 ghost use Rattle.constraints.specs.Layout.{trailerOf};
 ghost use Rattle.constraints.specs.Rules.{typesOf};
 ghost use Rattle.rules.specs.Verdict.{typesOfNode, constraintsVerdict, fileVerdict, linesVerdict, verdictOf};
+ghost use Rattle.rules.specs.Versions.{version2};
 ghost use Rattle.certificate.specs.Checking.{NodePassed, FilePassed, openingOf};
 
 // What the checks of the certificate file and its constraints give: the trailer, or a refusal.
@@ -47,7 +48,7 @@ fn constraints_opening(node: &[u8], cert: &[u8], types: &[u8], t: Trailer) -> Op
 // Rules 11 to 15.
 fn opening(node: &[u8], cert: &[u8], types: &[u8]) -> Opened
     requires { ⌜ ((x : ℕ) → typesOf (now types) x ≡ typesOfNode (now node) x) ⌝ }
-    ensures { λ r. ⌜ r ≡ openingOf (trailerOf (now (cert .entry))) (fileVerdict (now (node .entry)) (now (cert .entry))) ⌝ }
+    ensures { λ r. ⌜ r ≡ openingOf (trailerOf (now (cert .entry))) (fileVerdict version2 (now (node .entry)) (now (cert .entry))) ⌝ }
 {
     let size = cert.len();
     if !length_ok(size) {
@@ -69,7 +70,7 @@ fn opening(node: &[u8], cert: &[u8], types: &[u8]) -> Opened
 // Rules 11 to 22, where 1 to 8 and 23 have passed.
 fn certificate_verdict(node: &[u8], cert: &[u8], n: usize, property: u16) -> CertificateVerdict
     requires { ⌜ NodePassed (now node) n property ⌝ }
-    ensures { λ r. ⌜ certificateAnswer r ≡ andThen (fileVerdict (now (node .entry)) (now (cert .entry))) (linesVerdict (now (node .entry)) (now (cert .entry))) ⌝ }
+    ensures { λ r. ⌜ certificateAnswer r ≡ andThen (fileVerdict version2 (now (node .entry)) (now (cert .entry))) (linesVerdict version2 (now (node .entry)) (now (cert .entry))) ⌝ }
 {
     let types = types_of(node, n);
     match opening(node, cert, &types) {
@@ -80,7 +81,7 @@ fn certificate_verdict(node: &[u8], cert: &[u8], n: usize, property: u16) -> Cer
 
 // The verdict on a node file and a certificate.
 pub fn verdict(node: &[u8], cert: &[u8]) -> CertificateVerdict
-    ensures { λ r. ⌜ certificateAnswer r ≡ verdictOf (now (node .entry)) (now (cert .entry)) ⌝ }
+    ensures { λ r. ⌜ certificateAnswer r ≡ verdictOf version2 (now (node .entry)) (now (cert .entry)) ⌝ }
 {
     match node::verdict(node) {
         NodeVerdict::Accepted { streams, property } => {

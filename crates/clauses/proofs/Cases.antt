@@ -12,6 +12,7 @@ use Rattle.node.specs.declared.equation.Equation.the-variants.{Constant}
 use Rattle.rules.specs.declared.pattern.Pattern.the-variants.{Yes, No}
 use Rattle.rules.specs.declared.pattern.Position.{Position}
 use Rattle.rules.specs.Clauses.{clause1, clauses}
+use Rattle.rules.specs.Versions.{version2}
 use Rattle.clauses.specs.Operators.{over}
 
 -- a bool's constant
@@ -19,6 +20,6 @@ pub constant-case : (k : ℤ) (t : Bool) (s : ℕ) → leZ k (pos 0) ≡ t → o
 constant-case k t s e = ap (λ (u : Bool). clause1 (cond u (No s) (Yes s)) ∷ []) e
 
 -- a constant's clauses are the same at every place
-pub constant-anywhere : (ty : StreamType) (k : ℤ) (place : Position) (now back : ℕ → ℕ) (s : ℕ) → over ty (Constant k) s ≡ clauses ty (Constant k) place now back s
+pub constant-anywhere : (ty : StreamType) (k : ℤ) (place : Position) (now back : ℕ → ℕ) (s : ℕ) → over ty (Constant k) s ≡ clauses version2 ty (Constant k) place now back s
 constant-anywhere BoolType k place now back s = refl
 constant-anywhere IntType k place now back s = refl

@@ -18,6 +18,7 @@ use Rattle.rules.specs.declared.pattern.Clause.{Clause}
 use Rattle.rules.specs.declared.pattern.Named.the-variants.{Is}
 use Rattle.rules.specs.declared.pattern.Position.{Position}
 use Rattle.rules.specs.Clauses.{linear, clauses, numbered}
+use Rattle.rules.specs.Versions.{version2}
 use Rattle.rules.proofs.ClauseLiterals.{Each, Made, Known, each-literal}
 use Rattle.clauses.specs.Operators.{Has}
 use Rattle.clauses.specs.Limits.{Small, SmallPattern}
@@ -88,8 +89,8 @@ any : (now back : ℕ → ℕ) (rs : List Read) → All (Known (λ x. Unit {0}) 
 any now back [] = tt
 any now back (r ∷ rs) = (record { at = tt; before = tt; needed = λ _. tt }, any now back rs)
 
-pub small-clauses : (now back : ℕ → ℕ) (s : ℕ) (ty : StreamType) (e : Equation) (place : Position) → natAbs (constantOf e) ≤ 1000000000 → All (Each SmallPattern) (clauses ty e place now back s)
-small-clauses now back s ty e place h = each-literal (made-small s) now back ty e place h (any now back (reads e))
+pub small-clauses : (now back : ℕ → ℕ) (s : ℕ) (ty : StreamType) (e : Equation) (place : Position) → natAbs (constantOf e) ≤ 1000000000 → All (Each SmallPattern) (clauses version2 ty e place now back s)
+small-clauses now back s ty e place h = each-literal (made-small s) version2 now back ty e place h (any now back (reads e))
 
 -- so has the clause of a number
 pub small-named : (cs : List Clause) (r : ℕ) (c : Clause) → All (Each SmallPattern) cs → numbered cs r ≡ Is c → Each SmallPattern c

@@ -9,9 +9,10 @@ use Rattle.rules.specs.declared.pattern.Named.the-variants.{Is, Missing}
 use Rattle.rules.specs.declared.pattern.Pattern.{Pattern}
 use Rattle.rules.specs.declared.pattern.Position.the-variants.{Inner}
 use Rattle.rules.specs.Clauses.{clauses, guarded}
+use Rattle.rules.specs.Versions.{version2}
 
 abbrev pub over : StreamType → Equation → (s : ℕ) → List Clause
-over ty e s = clauses ty e Inner (λ x. x) (λ x. x) s
+over ty e s = clauses version2 ty e Inner (λ x. x) (λ x. x) s
 
 -- a literal put in front of the clause of a number, which has one or two
 abbrev pub guardedNamed : Pattern → Named → Named

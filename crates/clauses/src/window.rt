@@ -21,6 +21,7 @@ ghost use Prim.Native.Nat.{_-_};
 ghost use mathlib.Core.Path.{_≡_};
 ghost use Rattle.constraints.specs.Linear.{variable};
 ghost use Rattle.rules.specs.Clauses.{firstThen, clauses, numbered};
+ghost use Rattle.rules.specs.Versions.{version2};
 
 // Stream x at one offset lower.
 fn back(offset: u8, x: u16) -> u32
@@ -33,20 +34,35 @@ fn back(offset: u8, x: u16) -> u32
     }
 }
 
-// Operators 12 and 13: at the window's start the first operand, or no clause where that may be any instant; later the second.
-fn later(ty: StreamType, place: Position, s: u32, first: u32, second: u32, r: u16) -> Named
-    ensures { λ z. ⌜ z ≡ numbered (firstThen ty place s first second) r ⌝ }
+// Operators 12 and 13: at instant 0 the first operand, later the second; at the step's first offset no clause, unless the second stands in
+// the window there.
+fn later(
+    ty: StreamType,
+    place: Position,
+    enters: bool,
+    s: u32,
+    first: u32,
+    second: u32,
+    r: u16,
+) -> Named
+    ensures { λ z. ⌜ z ≡ numbered (firstThen ty place «enters» s first second) r ⌝ }
 {
     match place {
         Position::Opening => same_as(ty, s, first, r),
-        Position::Unsure => Named::Missing,
+        Position::Entry => {
+            if enters {
+                same_as(ty, s, second, r)
+            } else {
+                Named::Missing
+            }
+        }
         Position::Inner => same_as(ty, s, second, r),
     }
 }
 
 // Clause r, counted from 0, of stream s at an offset.
 pub fn clause_of(ty: StreamType, e: Equation, place: Position, offset: u8, s: u16, r: u16) -> Named
-    ensures { λ z. ⌜ z ≡ numbered (clauses ty e place (variable offset) (variable (offset - 1)) (variable offset s)) r ⌝ }
+    ensures { λ z. ⌜ z ≡ numbered (clauses version2 ty e place (variable offset) (variable (offset - 1)) (variable offset s)) r ⌝ }
 {
     let s = var(offset, s);
     match e {
@@ -75,8 +91,16 @@ pub fn clause_of(ty: StreamType, e: Equation, place: Position, offset: u8, s: u1
                 r,
             )
         }
-        Equation::Arrow(a, b) => later(ty, place, s, var(offset, a), var(offset, b), r),
-        Equation::FollowedBy(a, b) => later(ty, place, s, var(offset, a), back(offset, b), r),
+        Equation::Arrow(a, b) => later(ty, place, true, s, var(offset, a), var(offset, b), r),
+        Equation::FollowedBy(a, b) => later(
+            ty,
+            place,
+            false,
+            s,
+            var(offset, a),
+            back(offset, b),
+            r,
+        ),
         Equation::Lesser(a, b) => lesser(s, var(offset, a), var(offset, b), r),
         Equation::Greater(a, b) => greater(s, var(offset, a), var(offset, b), r),
     }

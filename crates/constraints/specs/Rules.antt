@@ -11,9 +11,9 @@ use Rattle.constraints.specs.declared.layout.Term.{Term}
 use Rattle.constraints.specs.declared.layout.Trailer.{Trailer}
 use Rattle.constraints.specs.Layout.{Constraint, constraintAt, sizeOf}
 
--- 12: fixed bytes. "0x4B, 0x43, version 1 ..; two zero bytes"
-unfoldable pub fixedOk : Trailer → Bool
-fixedOk t = eqb (t .first) 0x4B && eqb (t .second) 0x43 && eqb (t .version) 1 && eqb (t .zeros) 0
+-- 12: fixed bytes. "0x4B, 0x43, version 1 ..; two zero bytes", with the version as given
+unfoldable pub fixedOk : (version : ℕ) → Trailer → Bool
+fixedOk version t = eqb (t .first) 0x4B && eqb (t .second) 0x43 && eqb (t .version) version && eqb (t .zeros) 0
 
 -- 13: k or constraint count. "depth k (1 to 8)", "counts of constraints (0 to 256)"
 unfoldable pub countsOk : Trailer → Bool

@@ -3,11 +3,11 @@ use crate::layout::Trailer;
 ghost use mathlib.Core.Path.{_≡_};
 ghost use Rattle.constraints.specs.Rules.{fixedOk, countsOk, distanceOk, typesOf};
 
-// Rule 12.
+// Rule 12: of all versions, 2 alone passes.
 pub fn fixed_ok(t: Trailer) -> bool
-    ensures { λ r. ⌜ r ≡ fixedOk t ⌝ }
+    ensures { λ r. ⌜ r ≡ fixedOk 2 t ⌝ }
 {
-    (t.first == 0x4B) & (t.second == 0x43) & (t.version == 1) & (t.zeros == 0)
+    (t.first == 0x4B) & (t.second == 0x43) & (t.version == 2) & (t.zeros == 0)
 }
 
 // Rule 13.

@@ -17,6 +17,8 @@ use Rattle.rules.specs.Lines.{Window, hasEmpty}
 use Rattle.rules.specs.Outcome.{CertificateRules}
 use Rattle.rules.specs.Verdict.{typesOfNode, linesOf, windowOf, baseOf, stepOf, shapePasses}
 use Rattle.rules.specs.Satisfaction.{Valuation, Satisfies}
+use Rattle.rules.specs.Theorems.{Covers}
+use Rattle.rules.specs.Versions.{Version}
 use Rattle.rules.specs.Windows.{Solves}
 use Rattle.rules.proofs.Contradiction.{accepted}
 use Rattle.rules.proofs.ConstraintLimits.{names-constraint}
@@ -29,19 +31,19 @@ use Rattle.rules.proofs.EquationLines.{equation-satisfied}
 use Rattle.rules.proofs.Parts.{Premises, refuted}
 
 -- a part: its window is that of each of its lines, and one of them is empty
-pub record IsPart (node cert : List ℕ) (part : Window) : Type 0 where
+pub record IsPart (version : Version) (node cert : List ℕ) (part : Window) : Type 0 where
   pub lines : part .until ≤ linesOf cert
-  pub is : (i : ℕ) → part .from ≤ i → i < part .until → windowOf node cert i ≡ part
+  pub is : (i : ℕ) → part .from ≤ i → i < part .until → windowOf version node cert i ≡ part
   pub ends : hasEmpty (lineOf cert) part ≡ true
 
-module _ (node cert : List ℕ) (rules : CertificateRules node cert) where
-  pub base-part : IsPart node cert (baseOf node cert)
+module _ (version : Version) (covers : Covers version) (node cert : List ℕ) (rules : CertificateRules version node cert) where
+  pub base-part : IsPart version node cert (baseOf version node cert)
   base-part =
-      record { lines = omega arith; is = λ i l m. part-base cert (propertyOf node) i m; ends = rules .base-ends }
+      record { lines = omega arith; is = λ i l m. part-base version cert (propertyOf node) i m; ends = rules .base-ends }
 
-  pub step-part : IsPart node cert (stepOf node cert)
+  pub step-part : IsPart version node cert (stepOf node cert)
   step-part =
-      record { lines = omega arith; is = λ i l m. part-step cert (propertyOf node) i l; ends = rules .step-ends }
+      record { lines = omega arith; is = λ i l m. part-step version cert (propertyOf node) i l; ends = rules .step-ends }
 
   shape : (i : ℕ) → i < linesOf cert → ShapeFacts (typesOfNode node) (trailerOf cert .depth) (trailerOf cert .constraints) (lineOf cert i)
   unfolding shapePasses
@@ -54,7 +56,7 @@ module _ (node cert : List ℕ) (rules : CertificateRules node cert) where
       let line = lineOf cert i in
       let atom = atomOf (line .literal j) in
       let below = names-constraint (typesOfNode node) (trailerOf cert .depth) (trailerOf cert .constraints) atom (shape i l .atoms j (omega (arith, listed-within line))) on in
-      constraint-limited node cert rules (constraintNumber atom) below .variables
+      constraint-limited version node cert rules (constraintNumber atom) below .variables
 
   arithmetic-line : (w : Valuation) (i : ℕ) → i < linesOf cert → lineOf cert i .head .kind ≡ 4 → Satisfies (constraintOf cert) w (lineOf cert i)
   arithmetic-line w i l kind =
@@ -69,9 +71,9 @@ module _ (node cert : List ℕ) (rules : CertificateRules node cert) where
       cut-satisfied (constraintOf cert) w (lineOf cert i) passes
       (λ j m. named i l j m (all-on (constraintOf cert) (lineOf cert i) told j m))
 
-  module _ (part : Window) (p : IsPart node cert part) (w : Valuation) where
+  module _ (part : Window) (p : IsPart version node cert part) (w : Valuation) where
     premises :
-        Solves (nodeOf node) (part .opening) (part .offsets) w
+        Solves version (nodeOf node) (part .opening) (part .offsets) w
         → ((line : Line) → part .property line ≡ true → Satisfies (constraintOf cert) w line)
         → Premises (constraintOf cert) (lineOf cert) part w
     premises solves property =
@@ -81,8 +83,8 @@ module _ (node cert : List ℕ) (rules : CertificateRules node cert) where
           most = λ i l m. shape i (listed i m) .most;
           equations =
               λ i l m kind.
-              equation-satisfied node cert rules i (rules .equations i (listed i m) kind) w
-              (subst (λ (v : Window). Solves (nodeOf node) (v .opening) (v .offsets) w) (sym (p .is i l m)) solves);
+              equation-satisfied version covers node cert rules i (rules .equations i (listed i m) kind) w
+              (subst (λ (v : Window). Solves version (nodeOf node) (v .opening) (v .offsets) w) (sym (p .is i l m)) solves);
           properties =
               λ i l m kind.
               property (lineOf cert i)
@@ -90,14 +92,14 @@ module _ (node cert : List ℕ) (rules : CertificateRules node cert) where
           joins =
               λ i l m kind.
               subst (λ (n : ℕ). joinOk (lineOf cert) n i ≡ true)
-              (sym (from-is cert (propertyOf node) i) ∙ ap (λ (v : Window). v .from) (p .is i l m))
+              (sym (from-is version cert (propertyOf node) i) ∙ ap (λ (v : Window). v .from) (p .is i l m))
               (rules .joins i (listed i m) kind);
           arithmetic = λ i l m kind. arithmetic-line w i (listed i m) kind;
           cuts = λ i l m kind. cut-line w i (listed i m) kind;
         }
 
     pub part-refuted :
-        Solves (nodeOf node) (part .opening) (part .offsets) w
+        Solves version (nodeOf node) (part .opening) (part .offsets) w
         → ((line : Line) → part .property line ≡ true → Satisfies (constraintOf cert) w line)
         → ⊥
     part-refuted solves property = refuted (constraintOf cert) (lineOf cert) part w (premises solves property) (p .ends)

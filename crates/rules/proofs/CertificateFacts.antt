@@ -15,11 +15,12 @@ use Rattle.rules.specs.Limited.{Limited}
 use Rattle.rules.specs.Types.{typesBelow}
 use Rattle.rules.specs.Outcome.{FileRules, CertificateRules}
 use Rattle.rules.specs.Verdict.{typesOfNode}
+use Rattle.rules.specs.Versions.{Version}
 use Rattle.rules.proofs.ConstraintLimits.{limited}
 use Rattle.rules.proofs.FileFacts.{FileFacts, file-facts, file-passed}
 
-pub certificate-sizes : (cert : List ℕ) → FileRules cert → FileFacts cert
-certificate-sizes cert rules = file-facts cert (file-passed cert (rules .size) (rules .fixed) (rules .counts) (rules .distance))
+pub certificate-sizes : (version : Version) (cert : List ℕ) → FileRules version cert → FileFacts cert
+certificate-sizes version cert rules = file-facts version cert (file-passed version cert (rules .size) (rules .fixed) (rules .counts) (rules .distance))
 
 -- int streams are among the first 64
 pub few-streams : (node : List ℕ) (n : ℕ) → n ≤ 64 → (x : ℕ) → typesBelow node n x ≡ 1 → x < 64
@@ -30,7 +31,7 @@ few-streams node n most x = go (ltb x n) refl
     go false e f = omega arith
 
 -- each constraint is within its limits
-pub constraint-limited : (node cert : List ℕ) → CertificateRules node cert → (i : ℕ) → i < trailerOf cert .constraints → Limited (constraintOf cert i)
-constraint-limited node cert rules i l =
+pub constraint-limited : (version : Version) (node cert : List ℕ) → CertificateRules version node cert → (i : ℕ) → i < trailerOf cert .constraints → Limited (constraintOf cert i)
+constraint-limited version node cert rules i l =
     limited (typesOfNode node) (few-streams node (streamsOf node) (sizes node (rules .node-rules .file) .few))
-    (trailerOf cert .depth) (certificate-sizes cert (rules .file) .deep) (constraintOf cert i) (rules .constraints i l)
+    (trailerOf cert .depth) (certificate-sizes version cert (rules .file) .deep) (constraintOf cert i) (rules .constraints i l)

@@ -19,8 +19,9 @@ use Rattle.rules.specs.declared.pattern.Clause.{Clause}
 use Rattle.rules.specs.declared.pattern.Pattern.{Pattern}
 use Rattle.rules.specs.declared.pattern.Pattern.the-variants.{Yes, No, Most}
 use Rattle.rules.specs.declared.pattern.Position.{Position}
-use Rattle.rules.specs.declared.pattern.Position.the-variants.{Opening, Unsure, Inner}
+use Rattle.rules.specs.declared.pattern.Position.the-variants.{Opening, Entry, Inner}
 use Rattle.rules.specs.Clauses.{linear, most, less, clause1, clause2, clause3, equalTo, sameAs, guarded, firstThen, clauses}
+use Rattle.rules.specs.Versions.{Version}
 use Rattle.rules.proofs.ClauseForms.{all-map}
 
 -- a clause of at least one literal, each of which has Q
@@ -85,33 +86,34 @@ module _ {Q : Pattern → Type 0} where
         (λ c e. record { some = omega arith; first = q; second = e .first; third = e .second })
         (sameAs ty s t) (same ty t v)
 
-    first-then : (ty : StreamType) (place : Position) (x y : ℕ) → P x → P y → All (Each Q) (firstThen ty place s x y)
-    first-then ty Opening x y v w = same ty x v
-    first-then ty Unsure x y v w = tt
-    first-then ty Inner x y v w = same ty y w
+    first-then : (ty : StreamType) (place : Position) (enters : Bool) (x y : ℕ) → P x → P y → All (Each Q) (firstThen ty place enters s x y)
+    first-then ty Opening enters x y v w = same ty x v
+    first-then ty Entry true x y v w = same ty y w
+    first-then ty Entry false x y v w = tt
+    first-then ty Inner enters x y v w = same ty y w
 
-    constants : (ty : StreamType) (k : ℤ) (place : Position) (now back : ℕ → ℕ) → K k → All (Each Q) (clauses ty (Constant k) place now back s)
-    constants BoolType k place now back l = (one _ (go (leZ k (pos 0))), tt)
+    constants : (version : Version) (ty : StreamType) (k : ℤ) (place : Position) (now back : ℕ → ℕ) → K k → All (Each Q) (clauses version ty (Constant k) place now back s)
+    constants version BoolType k place now back l = (one _ (go (leZ k (pos 0))), tt)
       where
         go : (t : Bool) → Q (cond t (No s) (Yes s))
         go true = made .no s (made .own)
         go false = made .yes s (made .own)
-    constants IntType k place now back l = equals (made .constant k l)
+    constants version IntType k place now back l = equals (made .constant k l)
 
     -- ---- the operators
 
     pub each-literal :
-        (now back : ℕ → ℕ) (ty : StreamType) (e : Equation) (place : Position)
-        → K (constantOf e) → All (Known P N now back) (reads e) → All (Each Q) (clauses ty e place now back s)
+        (version : Version) (now back : ℕ → ℕ) (ty : StreamType) (e : Equation) (place : Position)
+        → K (constantOf e) → All (Known P N now back) (reads e) → All (Each Q) (clauses version ty e place now back s)
     unfolding rowOf rowFor reads
-    each-literal now back ty Input place k r = tt
-    each-literal now back ty (Constant z) place k r = constants ty z place now back k
-    each-literal now back ty (Not a) place k r =
+    each-literal version now back ty Input place k r = tt
+    each-literal version now back ty (Constant z) place k r = constants version ty z place now back k
+    each-literal version now back ty (Not a) place k r =
         let u = r .0 .at in (
           two (Yes s) (Yes (now a)) (made .yes s (made .own)) (made .yes _ u),
           (two (No s) (No (now a)) (made .no s (made .own)) (made .no _ u), tt),
         )
-    each-literal now back ty (And a b) place k r =
+    each-literal version now back ty (And a b) place k r =
         let u = r .0 .at in
         let v = r .1 .0 .at in (
           two (No s) (Yes (now a)) (made .no s (made .own)) (made .yes _ u),
@@ -120,7 +122,7 @@ module _ {Q : Pattern → Type 0} where
             (three (Yes s) (No (now a)) (No (now b)) (made .yes s (made .own)) (made .no _ u) (made .no _ v), tt),
           ),
         )
-    each-literal now back ty (Or a b) place k r =
+    each-literal version now back ty (Or a b) place k r =
         let u = r .0 .at in
         let v = r .1 .0 .at in (
           two (Yes s) (No (now a)) (made .yes s (made .own)) (made .no _ u),
@@ -129,7 +131,7 @@ module _ {Q : Pattern → Type 0} where
             (three (No s) (Yes (now a)) (Yes (now b)) (made .no s (made .own)) (made .yes _ u) (made .yes _ v), tt),
           ),
         )
-    each-literal now back ty (Same a b) place k r =
+    each-literal version now back ty (Same a b) place k r =
         let u = r .0 .at in
         let v = r .1 .0 .at in (
           three (No s) (No (now a)) (Yes (now b)) (made .no s (made .own)) (made .no _ u) (made .yes _ v),
@@ -141,18 +143,18 @@ module _ {Q : Pattern → Type 0} where
             ),
           ),
         )
-    each-literal now back ty (Sum a b) place k r =
+    each-literal version now back ty (Sum a b) place k r =
         equals (made .sum (pos 1) (omega arith) (now a) (now b) (r .0 .needed refl) (r .1 .0 .needed refl))
-    each-literal now back ty (Difference a b) place k r =
+    each-literal version now back ty (Difference a b) place k r =
         equals (made .sum (negℤ (pos 1)) (omega arith) (now a) (now b) (r .0 .needed refl) (r .1 .0 .needed refl))
-    each-literal now back ty (Multiple z a) place k r = equals (made .multiple z k (now a) (r .0 .needed refl))
-    each-literal now back ty (AtMost a b) place k r =
+    each-literal version now back ty (Multiple z a) place k r = equals (made .multiple z k (now a) (r .0 .needed refl))
+    each-literal version now back ty (AtMost a b) place k r =
         let u = r .0 .at in
         let v = r .1 .0 .at in (
           two (No s) (most (now a) (now b)) (made .no s (made .own)) (made .at-most _ _ u v),
           (two (Yes s) (less (now b) (now a)) (made .yes s (made .own)) (made .below _ _ v u), tt),
         )
-    each-literal now back ty (Equal a b) place k r =
+    each-literal version now back ty (Equal a b) place k r =
         let u = r .0 .at in
         let v = r .1 .0 .at in (
           two (No s) (most (now a) (now b)) (made .no s (made .own)) (made .at-most _ _ u v),
@@ -164,14 +166,14 @@ module _ {Q : Pattern → Type 0} where
             ),
           ),
         )
-    each-literal now back ty (If c a b) place k r =
+    each-literal version now back ty (If c a b) place k r =
         let w = r .1 .1 .0 .at in
         all-append _ (map (guarded (No (now c))) (sameAs ty s (now a))) (map (guarded (Yes (now c))) (sameAs ty s (now b)))
         (guarded-same ty (No (now c)) (now a) (made .no _ w) (r .0 .at))
         (guarded-same ty (Yes (now c)) (now b) (made .yes _ w) (r .1 .0 .at))
-    each-literal now back ty (Arrow a b) place k r = first-then ty place (now a) (now b) (r .0 .at) (r .1 .0 .at)
-    each-literal now back ty (FollowedBy a b) place k r = first-then ty place (now a) (back b) (r .0 .at) (r .1 .0 .before)
-    each-literal now back ty (Lesser a b) place k r =
+    each-literal version now back ty (Arrow a b) place k r = first-then ty place (version .after) (now a) (now b) (r .0 .at) (r .1 .0 .at)
+    each-literal version now back ty (FollowedBy a b) place k r = first-then ty place false (now a) (back b) (r .0 .at) (r .1 .0 .before)
+    each-literal version now back ty (Lesser a b) place k r =
         let u = r .0 .at in
         let v = r .1 .0 .at in (
           one (most s (now a)) (made .at-most _ _ (made .own) u),
@@ -180,7 +182,7 @@ module _ {Q : Pattern → Type 0} where
             (two (most (now a) s) (most (now b) s) (made .at-most _ _ u (made .own)) (made .at-most _ _ v (made .own)), tt),
           ),
         )
-    each-literal now back ty (Greater a b) place k r =
+    each-literal version now back ty (Greater a b) place k r =
         let u = r .0 .at in
         let v = r .1 .0 .at in (
           one (most (now a) s) (made .at-most _ _ u (made .own)),

@@ -2,8 +2,8 @@
 -- Assumes nothing.
 use mathlib.Core.Path.{_≡_, refl, _∙_}
 use mathlib.Core.Logic.{_⊎_, inl, inr}
-use mathlib.Core.List.{map}
-use mathlib.Core.Bool.{Bool, true, false, not, _&&_, _||_, Bool·beq}
+use mathlib.Core.List.{[], map}
+use mathlib.Core.Bool.{Bool, true, false, cond, not, _&&_, _||_, Bool·beq}
 use Prim.Native.Nat.{ℕ}
 use native.Mathlib.Omega.{arith}
 use borrow.Author.Tests.{not-false}
@@ -24,10 +24,11 @@ use Rattle.streams.specs.Meaning.{meaning}
 use Rattle.streams.specs.Values.{number, truth, equals, Values}
 use Rattle.streams.proofs.Numbers.{truth-number, zero-or-one}
 use Rattle.rules.specs.declared.pattern.Position.{Position}
-use Rattle.rules.specs.declared.pattern.Position.the-variants.{Opening, Unsure, Inner}
+use Rattle.rules.specs.declared.pattern.Position.the-variants.{Opening, Entry, Inner}
 use Rattle.rules.specs.declared.pattern.Pattern.the-variants.{Yes, No}
 use Rattle.rules.specs.Clauses.{clauses, sameAs, guarded}
 use Rattle.rules.specs.Satisfaction.{Valuation, patternTrue, clauseTrue}
+use Rattle.rules.specs.Versions.{Version}
 use Rattle.rules.proofs.ClauseForms.{AllTrue, most-is, less-is, same-true, guarded-same, equal-true}
 
 -- ---- the sums of rows 1 and 6 to 8, as a·x + b·y + k
@@ -45,19 +46,19 @@ multiple-sum : (k x : ℤ) → k *ℤ x ≡ k *ℤ x +ℤ pos 0 *ℤ x +ℤ pos 
 multiple-sum = by-diff2 _ (λ p q r s. simp zify (omega arith))
 
 -- what a place says of the instant, and of the operands one instant before
-abbrev pub PastAt : Position → (first : Bool) → (past : Values) → (w : Valuation) → (back : ℕ → ℕ) → Equation → Type 0
-PastAt Opening first past w back e = first ≡ true
-PastAt Unsure first past w back e = Unit {0}
-PastAt Inner first past w back e = (first ≡ false) × All (λ r. past (r .stream) ≡ w (back (r .stream))) (reads e)
+abbrev pub PastAt : Version → Position → (first : Bool) → (past : Values) → (w : Valuation) → (back : ℕ → ℕ) → Equation → Type 0
+PastAt version Opening first past w back e = first ≡ true
+PastAt version Entry first past w back e = version .after ≡ true → first ≡ false
+PastAt version Inner first past w back e = (first ≡ false) × All (λ r. past (r .stream) ≡ w (back (r .stream))) (reads e)
 
-module _ (w : Valuation) (now back : ℕ → ℕ) (s : ℕ) (ty : StreamType) (place : Position) (input : ℤ) (first : Bool) (past : Values) where
+module _ (version : Version) (w : Valuation) (now back : ℕ → ℕ) (s : ℕ) (ty : StreamType) (place : Position) (input : ℤ) (first : Bool) (past : Values) where
   -- stream s has the value in the row of e
   abbrev RowOf : Equation → Type 0
   RowOf e = w s ≡ meaning e input first past (λ x. w (now x))
 
   -- its clauses are true
   abbrev Hold : Equation → Type 0
-  Hold e = AllTrue w (clauses ty e place now back s)
+  Hold e = AllTrue w (clauses version ty e place now back s)
 
   -- a stream that is 1 or 0 by a test
   told : (b : Bool) → w s ≡ number b → truth (w s) ≡ b
@@ -127,11 +128,11 @@ module _ (w : Valuation) (now back : ℕ → ℕ) (s : ℕ) (ty : StreamType) (p
 
   -- ---- row 1: a bool constant is 0 or 1
 
-  constant-true : (own : StreamType) (k : ℤ) → InRange Value own k → w s ≡ k → AllTrue w (clauses own (Constant k) place now back s)
+  constant-true : (own : StreamType) (k : ℤ) → InRange Value own k → w s ≡ k → AllTrue w (clauses version own (Constant k) place now back s)
   unfolding clauseTrue patternTrue
   constant-true BoolType k fits row = go (zero-or-one k fits)
     where
-      go : (k ≡ pos 0) ⊎ (k ≡ pos 1) → AllTrue w (clauses BoolType (Constant k) place now back s)
+      go : (k ≡ pos 0) ⊎ (k ≡ pos 1) → AllTrue w (clauses version BoolType (Constant k) place now back s)
       go (inl e) = rw (e, row ∙ e, truth-number false) (refl, tt)
       go (inr e) = rw (e, row ∙ e, truth-number true) (refl, tt)
   constant-true IntType k fits row = equal-true w s (pos 0) s (pos 0) s k (row ∙ constant-sum k (w s))
@@ -145,15 +146,19 @@ module _ (w : Valuation) (now back : ℕ → ℕ) (s : ℕ) (ty : StreamType) (p
       (guarded-same w ty (No (now c)) s (now a) (λ e. row ∙ rw (not-false (truth (w (now c))) e)))
       (guarded-same w ty (Yes (now c)) s (now b) (λ e. row ∙ rw e))
 
-  arrow-true : (a b : ℕ) (at : Position) → PastAt at first past w back (Arrow a b) → RowOf (Arrow a b) → AllTrue w (clauses ty (Arrow a b) at now back s)
+  arrow-true : (a b : ℕ) (at : Position) → PastAt version at first past w back (Arrow a b) → RowOf (Arrow a b) → AllTrue w (clauses version ty (Arrow a b) at now back s)
   arrow-true a b Opening p row = same-true w ty s (now a) (row ∙ rw p)
-  arrow-true a b Unsure p row = tt
+  arrow-true a b Entry p row = go (version .after) p
+    where
+      go : (t : Bool) → (t ≡ true → first ≡ false) → AllTrue w (cond t (sameAs ty s (now b)) [])
+      go true q = same-true w ty s (now b) (row ∙ rw (q refl))
+      go false q = tt
   arrow-true a b Inner p row = same-true w ty s (now b) (row ∙ rw (p .0))
 
-  followed-true : (a b : ℕ) (at : Position) → PastAt at first past w back (FollowedBy a b) → RowOf (FollowedBy a b) → AllTrue w (clauses ty (FollowedBy a b) at now back s)
+  followed-true : (a b : ℕ) (at : Position) → PastAt version at first past w back (FollowedBy a b) → RowOf (FollowedBy a b) → AllTrue w (clauses version ty (FollowedBy a b) at now back s)
   unfolding rowOf rowFor reads
   followed-true a b Opening p row = same-true w ty s (now a) (row ∙ rw p)
-  followed-true a b Unsure p row = tt
+  followed-true a b Entry p row = tt
   followed-true a b Inner p row = same-true w ty s (back b) (row ∙ rw (p .0) (p .1 .1 .0))
 
   -- ---- rows 14 and 15: by the order of the operands
@@ -179,7 +184,7 @@ module _ (w : Valuation) (now back : ℕ → ℕ) (s : ℕ) (ty : StreamType) (p
       go false e = simp (most-is w, row, e, leZ-self (w (now a)), leZ-total (w (now a)) (w (now b)) e) (refl, (refl, (refl, tt)))
 
   -- all sixteen
-  pub clauses-true : (e : Equation) → ConstantOk ty e → PastAt place first past w back e → RowOf e → Hold e
+  pub clauses-true : (e : Equation) → ConstantOk ty e → PastAt version place first past w back e → RowOf e → Hold e
   unfolding rowOf rowFor
   clauses-true Input k p row = tt
   clauses-true (Constant z) k p row = constant-true ty z k row

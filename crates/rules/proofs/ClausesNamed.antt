@@ -10,6 +10,7 @@ use Rattle.rules.specs.declared.pattern.Pattern.{Pattern}
 use Rattle.rules.specs.declared.pattern.Pattern.the-variants.{Yes, No, Most}
 use Rattle.rules.specs.declared.pattern.Position.{Position}
 use Rattle.rules.specs.Clauses.{boundedOf, clauses}
+use Rattle.rules.specs.Versions.{Version}
 use Rattle.rules.proofs.ClauseLiterals.{Each, Made, Known, each-literal}
 
 -- a literal whose variables are below n
@@ -37,6 +38,6 @@ module _ (n s : ℕ) (own : s < n) where
       }
 
   pub clauses-below :
-      (now back : ℕ → ℕ) (ty : StreamType) (e : Equation) (place : Position)
-      → All (Known (λ x. x < n) (λ x. x < n) now back) (reads e) → All (ClauseBelow n) (clauses ty e place now back s)
-  clauses-below now back ty e place r = each-literal made-below now back ty e place tt r
+      (version : Version) (now back : ℕ → ℕ) (ty : StreamType) (e : Equation) (place : Position)
+      → All (Known (λ x. x < n) (λ x. x < n) now back) (reads e) → All (ClauseBelow n) (clauses version ty e place now back s)
+  clauses-below version now back ty e place r = each-literal made-below version now back ty e place tt r

@@ -16,7 +16,7 @@ use Rattle.constraints.specs.Layout.{Constraint, Line, usedIn, trailerOf, const
 use Rattle.constraints.specs.Linear.{variable}
 use Rattle.rules.specs.declared.pattern.Clause.{Clause}
 use Rattle.rules.specs.declared.pattern.Position.{Position}
-use Rattle.rules.specs.declared.pattern.Position.the-variants.{Opening, Unsure, Inner}
+use Rattle.rules.specs.declared.pattern.Position.the-variants.{Opening, Entry, Inner}
 use Rattle.rules.specs.Clauses.{clauses}
 use Rattle.rules.specs.Equations.{EquationLine}
 use Rattle.rules.specs.Limited.{Named}
@@ -24,6 +24,8 @@ use Rattle.rules.specs.Lines.{baseWindow, stepWindow, positionOf}
 use Rattle.rules.specs.Outcome.{CertificateRules}
 use Rattle.rules.specs.Verdict.{partOf, windowOf, EquationKept}
 use Rattle.rules.specs.Satisfaction.{Valuation, Satisfies}
+use Rattle.rules.specs.Theorems.{Covers}
+use Rattle.rules.specs.Versions.{Version}
 use Rattle.rules.specs.Windows.{PositionSays, RowHolds, Solves}
 use Rattle.rules.proofs.Contradiction.{below-written}
 use Rattle.rules.proofs.CertificateFacts.{certificate-sizes, constraint-limited}
@@ -32,21 +34,21 @@ use Rattle.rules.proofs.ClauseLines.{numbered-satisfied}
 use Rattle.rules.proofs.ClausesHold.{PastAt, clauses-true}
 use Rattle.rules.proofs.ClausesNamed.{ClauseBelow, clauses-below}
 
-module _ (node : Node) (formed : WellFormedNode node) (few : node .streams ≤ 64) (opening : Position) where
+module _ (version : Version) (node : Node) (formed : WellFormedNode node) (few : node .streams ≤ 64) (opening : Position) where
   -- ---- stream p at offset q
 
   abbrev clausesAt : (p q : ℕ) → List Clause
   clausesAt p q =
-      clauses (node .types p) (node .equations p) (positionOf opening q) (variable q) (variable (q - 1)) (variable q p)
+      clauses version (node .types p) (node .equations p) (positionOf opening q) (variable q) (variable (q - 1)) (variable q p)
 
   module _ (p q : ℕ) (l : p < node .streams) where
     -- what the place of the offset says
-    past-at : (w : Valuation) (row : RowHolds node opening w q p) → PastAt (positionOf opening q) (row .first) (row .past) w (variable (q - 1)) (node .equations p)
+    past-at : (w : Valuation) (row : RowHolds version node opening w q p) → PastAt version (positionOf opening q) (row .first) (row .past) w (variable (q - 1)) (node .equations p)
     past-at w row = go (positionOf opening q) (row .place)
       where
-        go : (at : Position) → PositionSays at (node .streams) (row .first) (row .past) (λ x. w (variable (q - 1) x)) → PastAt at (row .first) (row .past) w (variable (q - 1)) (node .equations p)
+        go : (at : Position) → PositionSays version at (node .streams) (row .first) (row .past) (λ x. w (variable (q - 1) x)) → PastAt version at (row .first) (row .past) w (variable (q - 1)) (node .equations p)
         go Opening e = e
-        go Unsure e = tt
+        go Entry e = e
         go Inner e = (
           e .0,
           all-map {P = ReadOk (node .streams) (node .types) p} {Q = λ r. row .past (r .stream) ≡ w (variable (q - 1) (r .stream))}
@@ -54,14 +56,14 @@ module _ (node : Node) (formed : WellFormedNode node) (few : node .streams ≤ 6
         )
 
     -- its clauses are true, and of small variables
-    row-true : (w : Valuation) → RowHolds node opening w q p → AllTrue w (clausesAt p q)
+    row-true : (w : Valuation) → RowHolds version node opening w q p → AllTrue w (clausesAt p q)
     row-true w row =
-        clauses-true w (variable q) (variable (q - 1)) (variable q p) (node .types p) (positionOf opening q) (row .input) (row .first)
+        clauses-true version w (variable q) (variable (q - 1)) (variable q p) (node .types p) (positionOf opening q) (row .input) (row .first)
         (row .past) (node .equations p) (formed .constants p l) (past-at w row) (row .value)
 
     row-below : q < 9 → All (ClauseBelow 576) (clausesAt p q)
     row-below low =
-        clauses-below 576 (variable q p) (omega arith) (variable q) (variable (q - 1)) (node .types p) (node .equations p) (positionOf opening q)
+        clauses-below 576 (variable q p) (omega arith) version (variable q) (variable (q - 1)) (node .types p) (node .equations p) (positionOf opening q)
         (all-map {P = ReadOk (node .streams) (node .types) p}
         (λ r ok. record { at = omega (arith, ok .below); before = omega (arith, ok .below); needed = λ _. omega (arith, ok .below) })
         (reads (node .equations p)) (formed .operands p l))
@@ -71,8 +73,8 @@ module _ (node : Node) (formed : WellFormedNode node) (few : node .streams ≤ 6
   pub equation-in-satisfied :
       (constraints : ℕ → Constraint) (m : ℕ) → ((i : ℕ) → i < m → Named (constraints i) (usedIn (constraints i)))
       → (offsets : ℕ) → offsets ≤ 9
-      → (line : Line) → EquationLine (node .streams) (node .types) (node .equations) constraints m offsets opening line
-      → (w : Valuation) → Solves node opening offsets w
+      → (line : Line) → EquationLine version (node .streams) (node .types) (node .equations) constraints m offsets opening line
+      → (w : Valuation) → Solves version node opening offsets w
       → Satisfies constraints w line
   equation-in-satisfied constraints m named offsets nine line e w solves =
       let p = line .head .p in
@@ -84,18 +86,18 @@ module _ (node : Node) (formed : WellFormedNode node) (few : node .streams ≤ 6
 -- ---- a certificate
 
 -- the offsets of either part
-offsets-few : (cert : List ℕ) (property i : ℕ) → trailerOf cert .depth ≤ 8 → partOf cert property i .offsets ≤ 9
-offsets-few cert property i deep = go (ltb i (trailerOf cert .base))
+offsets-few : (version : Version) → Covers version → (cert : List ℕ) (property i : ℕ) → trailerOf cert .depth ≤ 8 → partOf version cert property i .offsets ≤ 9
+offsets-few version covers cert property i deep = go (ltb i (trailerOf cert .base))
   where
-    go : (t : Bool) → (cond t (baseWindow (trailerOf cert .depth) property (trailerOf cert .base)) (stepWindow (trailerOf cert .depth) property (trailerOf cert .base) (trailerOf cert .step))) .offsets ≤ 9
-    go true = omega arith
+    go : (t : Bool) → (cond t (baseWindow version (trailerOf cert .depth) property (trailerOf cert .base)) (stepWindow (trailerOf cert .depth) property (trailerOf cert .base) (trailerOf cert .step))) .offsets ≤ 9
+    go true = omega (arith, covers .within (trailerOf cert .depth))
     go false = omega arith
 
-pub equation-satisfied : (node cert : List ℕ) → CertificateRules node cert → (i : ℕ) → EquationKept node cert i
-    → (w : Valuation) → Solves (nodeOf node) (windowOf node cert i .opening) (windowOf node cert i .offsets) w
+pub equation-satisfied : (version : Version) → Covers version → (node cert : List ℕ) → CertificateRules version node cert → (i : ℕ) → EquationKept version node cert i
+    → (w : Valuation) → Solves version (nodeOf node) (windowOf version node cert i .opening) (windowOf version node cert i .offsets) w
     → Satisfies (constraintOf cert) w (lineOf cert i)
-equation-satisfied node cert rules i e w solves =
-    equation-in-satisfied (nodeOf node) (well-formed node (rules .node-rules)) (sizes node (rules .node-rules .file) .few)
-    (windowOf node cert i .opening) (constraintOf cert) (trailerOf cert .constraints)
-    (λ j l. constraint-limited node cert rules j l .variables) (windowOf node cert i .offsets)
-    (offsets-few cert (propertyOf node) i (certificate-sizes cert (rules .file) .deep)) (lineOf cert i) e w solves
+equation-satisfied version covers node cert rules i e w solves =
+    equation-in-satisfied version (nodeOf node) (well-formed node (rules .node-rules)) (sizes node (rules .node-rules .file) .few)
+    (windowOf version node cert i .opening) (constraintOf cert) (trailerOf cert .constraints)
+    (λ j l. constraint-limited version node cert rules j l .variables) (windowOf version node cert i .offsets)
+    (offsets-few version covers cert (propertyOf node) i (certificate-sizes version cert (rules .file) .deep)) (lineOf cert i) e w solves

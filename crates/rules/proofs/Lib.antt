@@ -21,6 +21,7 @@ pub mod LineParts
 pub mod LiteralMatches
 pub mod Literals
 pub mod Matches
+pub mod OtherVersions
 pub mod Outcomes
 pub mod Parts
 pub mod PropertyLines

@@ -11,6 +11,7 @@ use Rattle.constraints.specs.Layout.{lineOf}
 use Rattle.rules.specs.Lines.{unless, ofKind, kindFault}
 use Rattle.rules.specs.Outcome.{LineMet, KindMet, FirstFailure, at-16, at-17, at-18, at-19, at-20, at-22}
 use Rattle.rules.specs.Verdict.{shapePasses, EquationKept, equationPasses, propertyPasses, joinPasses, arithmeticPasses, cutPasses, lineFault, linePasses}
+use Rattle.rules.specs.Versions.{Version}
 use Rattle.rules.proofs.Matches.{equation-test}
 
 -- the number of a kind, where it breaks its rule
@@ -61,13 +62,13 @@ module _ (kind its : ℕ) (ok : Bool) where
   kept : ofKind kind its ok ≡ true → kind ≡ its → ok ≡ true
   kept e k = rw (eq-eqb kind its k) at e
 
-module _ (node cert : List ℕ) (i : ℕ) where
+module _ (version : Version) (node cert : List ℕ) (i : ℕ) where
   abbrev kindOf : ℕ
   kindOf = lineOf cert i .head .kind
 
   pub record KindRules : Type 0 where
-    pub equation : kindOf ≡ 1 → equationPasses node cert i ≡ true
-    pub property : kindOf ≡ 2 → propertyPasses node cert i ≡ true
+    pub equation : kindOf ≡ 1 → equationPasses version node cert i ≡ true
+    pub property : kindOf ≡ 2 → propertyPasses version node cert i ≡ true
     pub join : kindOf ≡ 3 → joinPasses cert i ≡ true
     pub arithmetic : kindOf ≡ 4 → arithmeticPasses cert i ≡ true
     pub cut : kindOf ≡ 5 → cutPasses cert i ≡ true
@@ -75,18 +76,18 @@ module _ (node cert : List ℕ) (i : ℕ) where
   -- the tests in a row
   by-line : (P : ℕ → Type 0)
       → (shapePasses node cert i ≡ false → P 16)
-      → (shapePasses node cert i ≡ true → ofKind kindOf 1 (equationPasses node cert i) ≡ false → P 17)
-      → (shapePasses node cert i ≡ true → ofKind kindOf 2 (propertyPasses node cert i) ≡ false → P 18)
+      → (shapePasses node cert i ≡ true → ofKind kindOf 1 (equationPasses version node cert i) ≡ false → P 17)
+      → (shapePasses node cert i ≡ true → ofKind kindOf 2 (propertyPasses version node cert i) ≡ false → P 18)
       → (shapePasses node cert i ≡ true → ofKind kindOf 3 (joinPasses cert i) ≡ false → P 19)
       → (shapePasses node cert i ≡ true → ofKind kindOf 4 (arithmeticPasses cert i) ≡ false → P 20)
       → (shapePasses node cert i ≡ true → ofKind kindOf 5 (cutPasses cert i) ≡ false → P 22)
       → (shapePasses node cert i ≡ true → KindRules → P 0)
-      → P (lineFault node cert i)
+      → P (lineFault version node cert i)
   unfolding lineFault kindFault
   by-line P s e p j a c none =
       by-unless P (shapePasses node cert i) 16 _ s λ shape.
-      by-unless P (ofKind kindOf 1 (equationPasses node cert i)) 17 _ (e shape) λ e1.
-      by-unless P (ofKind kindOf 2 (propertyPasses node cert i)) 18 _ (p shape) λ e2.
+      by-unless P (ofKind kindOf 1 (equationPasses version node cert i)) 17 _ (e shape) λ e1.
+      by-unless P (ofKind kindOf 2 (propertyPasses version node cert i)) 18 _ (p shape) λ e2.
       by-unless P (ofKind kindOf 3 (joinPasses cert i)) 19 _ (j shape) λ e3.
       by-unless P (ofKind kindOf 4 (arithmeticPasses cert i)) 20 _ (a shape) λ e4.
       by-unless P (ofKind kindOf 5 (cutPasses cert i)) 22 _ (c shape) λ e5.
@@ -100,14 +101,14 @@ module _ (node cert : List ℕ) (i : ℕ) where
       })
 
   -- what a line keeps that breaks none
-  pub line-kept : linePasses node cert i ≡ true → (shapePasses node cert i ≡ true) × KindRules
+  pub line-kept : linePasses version node cert i ≡ true → (shapePasses node cert i ≡ true) × KindRules
   line-kept =
       by-line (λ n. eqb n 0 ≡ true → (shapePasses node cert i ≡ true) × KindRules) (λ _ z. absurd (false≢true z))
       (λ _ _ z. absurd (false≢true z)) (λ _ _ z. absurd (false≢true z)) (λ _ _ z. absurd (false≢true z)) (λ _ _ z. absurd (false≢true z))
       (λ _ _ z. absurd (false≢true z))
       (λ s r _. (s, r))
 
-  pub line-passes : shapePasses node cert i ≡ true → KindRules → linePasses node cert i ≡ true
+  pub line-passes : shapePasses node cert i ≡ true → KindRules → linePasses version node cert i ≡ true
   line-passes s r =
       by-line (λ n. eqb n 0 ≡ true) (λ f. absurd (false≢true (sym f ∙ s)))
       (λ _ f. absurd (false≢true (sym f ∙ keeps kindOf 1 _ (r .equation))))
@@ -118,9 +119,9 @@ module _ (node cert : List ℕ) (i : ℕ) where
       (λ _ _. refl)
 
   -- what the number says of a line that breaks one
-  pub line-broken : LineMet node cert i → linePasses node cert i ≡ false → FirstFailure node cert (lineFault node cert i) (AtLine i)
+  pub line-broken : LineMet version node cert i → linePasses version node cert i ≡ false → FirstFailure version node cert (lineFault version node cert i) (AtLine i)
   line-broken met =
-      by-line (λ n. eqb n 0 ≡ false → FirstFailure node cert n (AtLine i)) (λ f _. at-16 met f)
+      by-line (λ n. eqb n 0 ≡ false → FirstFailure version node cert n (AtLine i)) (λ f _. at-16 met f)
       (λ s f _. at-17 (of s (breaks kindOf 1 _ f .0)) (not-kept (breaks kindOf 1 _ f .1)))
       (λ s f _. at-18 (of s (breaks kindOf 2 _ f .0)) (breaks kindOf 2 _ f .1))
       (λ s f _. at-19 (of s (breaks kindOf 3 _ f .0)) (breaks kindOf 3 _ f .1))
@@ -128,8 +129,8 @@ module _ (node cert : List ℕ) (i : ℕ) where
       (λ s f _. at-22 (of s (breaks kindOf 5 _ f .0)) (breaks kindOf 5 _ f .1))
       (λ _ _ z. absurd (false≢true (sym z)))
     where
-      of : {kind : ℕ} → shapePasses node cert i ≡ true → kindOf ≡ kind → KindMet node cert i kind
+      of : {kind : ℕ} → shapePasses node cert i ≡ true → kindOf ≡ kind → KindMet version node cert i kind
       of s k = record { met = met; shape = s; is = k }
 
-      not-kept : equationPasses node cert i ≡ false → ¬ EquationKept node cert i
-      not-kept f e = false≢true (sym f ∙ equation-test node cert i (met .before .node-rules) e)
+      not-kept : equationPasses version node cert i ≡ false → ¬ EquationKept version node cert i
+      not-kept f e = false≢true (sym f ∙ equation-test version node cert i (met .before .node-rules) e)

@@ -9,22 +9,23 @@ use lib.Dec.{ltb}
 use Rattle.constraints.specs.Layout.{trailerOf}
 use Rattle.rules.specs.Lines.{Window, baseWindow, stepWindow}
 use Rattle.rules.specs.Verdict.{partOf, firstLine}
+use Rattle.rules.specs.Versions.{Version}
 
-module _ (cert : List ℕ) where
-  pub part-base : (property i : ℕ) → i < trailerOf cert .base → partOf cert property i ≡ baseWindow (trailerOf cert .depth) property (trailerOf cert .base)
+module _ (version : Version) (cert : List ℕ) where
+  pub part-base : (property i : ℕ) → i < trailerOf cert .base → partOf version cert property i ≡ baseWindow version (trailerOf cert .depth) property (trailerOf cert .base)
   part-base property i l = rw (lt-ltb i (trailerOf cert .base) l)
 
-  pub part-step : (property i : ℕ) → trailerOf cert .base ≤ i → partOf cert property i ≡ stepWindow (trailerOf cert .depth) property (trailerOf cert .base) (trailerOf cert .step)
+  pub part-step : (property i : ℕ) → trailerOf cert .base ≤ i → partOf version cert property i ≡ stepWindow (trailerOf cert .depth) property (trailerOf cert .base) (trailerOf cert .step)
   part-step property i l = rw (le-ltb i (trailerOf cert .base) l)
 
-  -- where a part begins does not depend on the property
-  pub from-is : (property i : ℕ) → partOf cert property i .from ≡ firstLine cert i
+  -- where a part begins depends on neither the version nor the property
+  pub from-is : (property i : ℕ) → partOf version cert property i .from ≡ firstLine cert i
   from-is property i = go (ltb i (trailerOf cert .base))
     where
-      window : (property : ℕ) → Bool → Window
-      window p b =
-          cond b (baseWindow (trailerOf cert .depth) p (trailerOf cert .base)) (stepWindow (trailerOf cert .depth) p (trailerOf cert .base) (trailerOf cert .step))
+      window : Bool → Window
+      window b =
+          cond b (baseWindow version (trailerOf cert .depth) property (trailerOf cert .base)) (stepWindow (trailerOf cert .depth) property (trailerOf cert .base) (trailerOf cert .step))
 
-      go : (b : Bool) → window property b .from ≡ window 0 b .from
+      go : (b : Bool) → window b .from ≡ cond b 0 (trailerOf cert .base)
       go true = refl
       go false = refl

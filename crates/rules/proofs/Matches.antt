@@ -29,6 +29,7 @@ use Rattle.rules.specs.Factors.{isMultiple, saysMost, matchesOf}
 use Rattle.rules.specs.Lines.{positionOf, clauseIs, literalsAre, equationIn}
 use Rattle.rules.specs.Matching.{SaysMost, Matches}
 use Rattle.rules.specs.Verdict.{windowOf, EquationKept, equationPasses}
+use Rattle.rules.specs.Versions.{Version}
 use Rattle.rules.proofs.ClauseLiterals.{Each, each-literal}
 use Rattle.rules.proofs.Factors.{multiple-exactly, multiple-means}
 use Rattle.rules.proofs.Leading.{Leading, LeadingLiteral, made-leading}
@@ -123,7 +124,7 @@ module _ (constraints : ℕ → Constraint) (m : ℕ) (line : Line) where
 
 -- ---- a line
 
-module _ (node cert : List ℕ) (i : ℕ) where
+module _ (version : Version) (node cert : List ℕ) (i : ℕ) where
   abbrev line : Line
   line = lineOf cert i
 
@@ -131,25 +132,25 @@ module _ (node cert : List ℕ) (i : ℕ) where
   itsClauses =
       let p = line .head .p in
       let q = line .head .q in
-      clauses (typeAt node p) (equationAt node p) (positionOf (windowOf node cert i .opening) q) (variable q) (variable (q - 1)) (variable q p)
+      clauses version (typeAt node p) (equationAt node p) (positionOf (windowOf version node cert i .opening) q) (variable q) (variable (q - 1)) (variable q p)
 
   -- operands needed now are other streams
   leading : NodeRules node → line .head .p < streamsOf node → All (Each LeadingLiteral) itsClauses
   leading rules l =
       let p = line .head .p in
       let q = line .head .q in
-      each-literal (made-leading (variable q p)) (variable q) (variable (q - 1)) (typeAt node p) (equationAt node p) _ tt
+      each-literal (made-leading (variable q p)) version (variable q) (variable (q - 1)) (typeAt node p) (equationAt node p) _ tt
       (all-map {P = λ r. r .now ≡ true → placeIn (orderOf node) (r .stream) < placeIn (orderOf node) p}
       (λ r after. record { at = tt; before = tt; needed = λ now e. let same : r .stream ≡ p = omega (arith, e) in omega (arith, after now, ap (placeIn (orderOf node)) same) })
       (reads (equationAt node p)) (well-formed node rules .ordered .after p l))
 
-  pub equation-means : equationPasses node cert i ≡ true → EquationKept node cert i
+  pub equation-means : equationPasses version node cert i ≡ true → EquationKept version node cert i
   unfolding equationIn
   equation-means e =
       let p = line .head .p in
       let q = line .head .q in
       let n = streamsOf node in
-      let offsets = windowOf node cert i .offsets in
+      let offsets = windowOf version node cert i .offsets in
       let equal = literalsAre (constraintOf cert) (trailerOf cert .constraints) line (numbered itsClauses (line .head .r)) in
       let outer = both-true (ltb p n && ltb q offsets) equal e in
       let inner = both-true (ltb p n) (ltb q offsets) (outer .0) in
@@ -159,7 +160,7 @@ module _ (node cert : List ℕ) (i : ℕ) where
         literals = named-means (constraintOf cert) (trailerOf cert .constraints) line itsClauses (line .head .r) (outer .1);
       }
 
-  pub equation-test : NodeRules node → EquationKept node cert i → equationPasses node cert i ≡ true
+  pub equation-test : NodeRules node → EquationKept version node cert i → equationPasses version node cert i ≡ true
   unfolding equationIn
   equation-test rules e =
       rw (
@@ -169,5 +170,5 @@ module _ (node cert : List ℕ) (i : ℕ) where
       )
 
   -- the test, and the words
-  pub equation-exactly : NodeRules node → (equationPasses node cert i ≡ true) ↔ EquationKept node cert i
+  pub equation-exactly : NodeRules node → (equationPasses version node cert i ≡ true) ↔ EquationKept version node cert i
   equation-exactly rules = (equation-means, equation-test rules)

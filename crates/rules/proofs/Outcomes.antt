@@ -19,6 +19,7 @@ use Rattle.node.specs.Verdict.{verdictOf as nodeVerdict}
 use Rattle.node.proofs.Outcomes.{accepted-keeps as node-keeps, refused-first as node-first, keeps-accepted as node-accepted}
 use Rattle.rules.specs.Outcome.{FileRules, LinesKeep, CertificateRules, BeforeLines, FirstFailure, in-node, at-11, at-12, at-13, at-14, at-15, at-21-base, at-21-step, Says}
 use Rattle.rules.specs.Verdict.{linesOf, valuesOf, shapePasses, lineFault, linePasses, checkLines, partsVerdict, linesVerdict, constraintsVerdict, fileVerdict, beforeLines, verdictOf}
+use Rattle.rules.specs.Versions.{Version}
 use Rattle.rules.proofs.LineFaults.{KindRules, line-kept, line-passes, line-broken}
 use Rattle.rules.proofs.Matches.{equation-means, equation-test}
 
@@ -27,21 +28,21 @@ by-lines : (P : Answer CertificateValues → Type 0) (found : Found) (number : �
 by-lines P (At i) number rest f g = f i refl
 by-lines P Nothing number rest f g = g refl
 
-module _ (node cert : List ℕ) where
-  kept : LinesKeep cert (linePasses node cert) → (i : ℕ) → i < linesOf cert → (shapePasses node cert i ≡ true) × KindRules node cert i
-  kept h i l = line-kept node cert i (h i l)
+module _ (version : Version) (node cert : List ℕ) where
+  kept : LinesKeep cert (linePasses version node cert) → (i : ℕ) → i < linesOf cert → (shapePasses node cert i ≡ true) × KindRules version node cert i
+  kept h i l = line-kept version node cert i (h i l)
 
-  of-parts : BeforeLines node cert → LinesKeep cert (linePasses node cert) → Says node cert (partsVerdict node cert)
+  of-parts : BeforeLines version node cert → LinesKeep cert (linePasses version node cert) → Says version node cert (partsVerdict version node cert)
   unfolding partsVerdict
   of-parts b lines =
-      by-check (Says node cert) _ 21 Base _ (λ e21. at-21-base b lines e21) λ e21.
-      by-check (Says node cert) _ 21 Step _ (λ e22. at-21-step b lines e21 e22) λ e22. (
+      by-check (Says version node cert) _ 21 Base _ (λ e21. at-21-base b lines e21) λ e21.
+      by-check (Says version node cert) _ 21 Step _ (λ e22. at-21-step b lines e21 e22) λ e22. (
         record {
           node-rules = b .node-rules;
           file = b .file;
           constraints = b .constraints;
           shapes = λ i l. kept lines i l .0;
-          equations = λ i l k. equation-means node cert i (kept lines i l .1 .equation k);
+          equations = λ i l k. equation-means version node cert i (kept lines i l .1 .equation k);
           properties = λ i l k. kept lines i l .1 .property k;
           joins = λ i l k. kept lines i l .1 .join k;
           arithmetic = λ i l k. kept lines i l .1 .arithmetic k;
@@ -52,73 +53,73 @@ module _ (node cert : List ℕ) where
         refl,
       )
 
-  of-lines : BeforeLines node cert → Says node cert (linesVerdict node cert)
+  of-lines : BeforeLines version node cert → Says version node cert (linesVerdict version node cert)
   unfolding linesVerdict
   of-lines b =
-      by-lines (Says node cert) _ (lineFault node cert) _
+      by-lines (Says version node cert) _ (lineFault version node cert) _
       (λ i e.
       let at = first _ _ _ e in
-      line-broken node cert i (record { before = b; below = at .below; earlier = at .before }) (at .fails))
+      line-broken version node cert i (record { before = b; below = at .below; earlier = at .before }) (at .fails))
       λ e. of-parts b (all _ _ e)
 
   -- what the answer of the checks before lines says
   abbrev Opens : Answer (Unit {0}) → Type 0
-  Opens (accepted v) = BeforeLines node cert
-  Opens (refused number place) = FirstFailure node cert number place
+  Opens (accepted v) = BeforeLines version node cert
+  Opens (refused number place) = FirstFailure version node cert number place
 
-  of-file : NodeRules node → Opens (fileVerdict node cert)
+  of-file : NodeRules node → Opens (fileVerdict version node cert)
   unfolding fileVerdict constraintsVerdict
   of-file n =
       by-check Opens _ 11 File _ (at-11 n) λ e1.
       by-check Opens _ 12 File _ (at-12 n e1) λ e2.
       by-check Opens _ 13 File _ (at-13 n e1 e2) λ e3.
       by-check Opens _ 14 File _ (at-14 n e1 e2 e3) λ e4.
-      let f : FileRules cert = record { size = e1; fixed = e2; counts = e3; distance = e4 } in
+      let f : FileRules version cert = record { size = e1; fixed = e2; counts = e3; distance = e4 } in
       by-check-all Opens _ 15 AtConstraint _ (λ i e. at-15 n f (first _ _ _ e)) λ e.
       record { node-rules = n; file = f; constraints = all _ _ e }
 
   -- what is known where no check before lines fails
-  pub file-opens : NodeRules node → {v : Unit {0}} → fileVerdict node cert ≡ accepted v → BeforeLines node cert
+  pub file-opens : NodeRules node → {v : Unit {0}} → fileVerdict version node cert ≡ accepted v → BeforeLines version node cert
   file-opens n e = subst Opens e (of-file n)
 
-  after-node : (a : Answer NodeValues) → nodeVerdict node ≡ a → Opens (andThen a (fileVerdict node cert))
+  after-node : (a : Answer NodeValues) → nodeVerdict node ≡ a → Opens (andThen a (fileVerdict version node cert))
   after-node (accepted v) e = of-file (node-keeps node e)
   after-node (refused number place) e = in-node (node-first node e)
 
-  after-opening : (a : Answer (Unit {0})) → Opens a → Says node cert (andThen a (linesVerdict node cert))
+  after-opening : (a : Answer (Unit {0})) → Opens a → Says version node cert (andThen a (linesVerdict version node cert))
   after-opening (accepted v) b = of-lines b
   after-opening (refused number place) f = f
 
-  pub says : Says node cert (verdictOf node cert)
+  pub says : Says version node cert (verdictOf version node cert)
   unfolding verdictOf beforeLines
-  says = after-opening (beforeLines node cert) (after-node (nodeVerdict node) refl)
+  says = after-opening (beforeLines version node cert) (after-node (nodeVerdict node) refl)
 
-  pub accepted-keeps : {v : CertificateValues} → verdictOf node cert ≡ accepted v → CertificateRules node cert
-  accepted-keeps e = subst (Says node cert) e says .0
+  pub accepted-keeps : {v : CertificateValues} → verdictOf version node cert ≡ accepted v → CertificateRules version node cert
+  accepted-keeps e = subst (Says version node cert) e says .0
 
   -- "with its depth and both line counts, as the trailer has them"
-  pub accepted-values : {v : CertificateValues} → verdictOf node cert ≡ accepted v → v ≡ valuesOf cert
-  accepted-values e = subst (Says node cert) e says .1
+  pub accepted-values : {v : CertificateValues} → verdictOf version node cert ≡ accepted v → v ≡ valuesOf cert
+  accepted-values e = subst (Says version node cert) e says .1
 
-  pub refused-first : {number : ℕ} {place : Place} → verdictOf node cert ≡ refused number place → FirstFailure node cert number place
-  refused-first e = subst (Says node cert) e says
+  pub refused-first : {number : ℕ} {place : Place} → verdictOf version node cert ≡ refused number place → FirstFailure version node cert number place
+  refused-first e = subst (Says version node cert) e says
 
-  lines-keep : CertificateRules node cert → LinesKeep cert (linePasses node cert)
+  lines-keep : CertificateRules version node cert → LinesKeep cert (linePasses version node cert)
   lines-keep r i l =
-      let rules : KindRules node cert i =
+      let rules : KindRules version node cert i =
       record {
-        equation = λ k. equation-test node cert i (r .node-rules) (r .equations i l k);
+        equation = λ k. equation-test version node cert i (r .node-rules) (r .equations i l k);
         property = r .properties i l;
         join = r .joins i l;
         arithmetic = r .arithmetic i l;
         cut = r .cuts i l;
       } in
-      line-passes node cert i (r .shapes i l) rules
+      line-passes version node cert i (r .shapes i l) rules
 
   abbrev Accepts : Answer CertificateValues → Type 0
   Accepts a = a ≡ accepted (valuesOf cert)
 
-  pub keeps-accepted : CertificateRules node cert → verdictOf node cert ≡ accepted (valuesOf cert)
+  pub keeps-accepted : CertificateRules version node cert → verdictOf version node cert ≡ accepted (valuesOf cert)
   unfolding verdictOf beforeLines fileVerdict constraintsVerdict linesVerdict partsVerdict
   keeps-accepted r =
       let f = r .file in
@@ -135,5 +136,5 @@ module _ (node cert : List ℕ) where
       by-check Accepts _ 21 Step _ (λ e. absurd (false≢true (sym e ∙ r .step-ends))) λ _. refl)
 
   -- the published rules, and only they
-  pub accepted-exactly : (verdictOf node cert ≡ accepted (valuesOf cert)) ↔ CertificateRules node cert
+  pub accepted-exactly : (verdictOf version node cert ≡ accepted (valuesOf cert)) ↔ CertificateRules version node cert
   accepted-exactly = (accepted-keeps, keeps-accepted)

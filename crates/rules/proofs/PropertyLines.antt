@@ -1,9 +1,9 @@
--- Property lines: the base's is satisfied by a window in which the property fails at some offset below k, the step's by one in
+-- Property lines: the base's is satisfied by a window in which the property fails at some offset that it covers, the step's by one in
 -- which it holds at the offsets below k and fails at k.
 -- Assumes nothing.
 use mathlib.Core.Path.{_≡_, refl, _∙_, ap}
 use mathlib.Core.Bool.{Bool, true, false, cond, not, _&&_}
-use Prim.Native.Nat.{ℕ, _<_, _≤_}
+use Prim.Native.Nat.{ℕ, _+_, _<_, _≤_}
 use native.Mathlib.Omega.{arith}
 use borrow.Author.Tests.{leb-true, eqb-true, eqb-false}
 use lib.Dec.{leb, eqb}
@@ -30,9 +30,9 @@ module _ (constraints : ℕ → Constraint) (w : Valuation) (k prop : ℕ) (deep
   is-property : (q : ℕ) → q ≤ k → holdsAt w prop q ≡ true → literalTrue constraints w (positive (variable q prop)) ≡ true
   is-property q l e = positive-true constraints w (variable q prop) (omega arith) ∙ e
 
-  pub base-property-satisfied : (line : Line) → basePropertyOk k prop line ≡ true → (q : ℕ) → q < k → holdsAt w prop q ≡ false → Satisfies constraints w line
+  pub base-property-satisfied : (covered : ℕ) → covered ≤ k + 1 → (line : Line) → basePropertyOk covered prop line ≡ true → (q : ℕ) → q < covered → holdsAt w prop q ≡ false → Satisfies constraints w line
   unfolding basePropertyOk
-  base-property-satisfied line e q l f =
+  base-property-satisfied covered within line e q l f =
       let all = both-true (eqb (line .head .q) 0 && eqb (line .head .count) _) (every (notPropertyAt prop (line .literal)) _) e in
       let first = both-true (eqb (line .head .q) 0) (eqb (line .head .count) _) (all .0) in
       let listed = is-listed line q (omega (arith, eqb-true (line .head .count) _ (first .1))) (omega arith) in

@@ -1,5 +1,5 @@
--- A solution's instants in a row are a window in which the node's equations hold: from instant 0 on that of the base, from any
--- instant on that of the step.
+-- A solution's instants in a row are a window in which the node's equations hold: from instant 0 on that of the base, from an
+-- instant on that the step may begin at that of the step.
 -- Assumes nothing.
 use mathlib.Core.Path.{_≡_, refl, sym, _∙_, ap, ap₂, subst}
 use mathlib.Core.Bool.{Bool, true, false, cond}
@@ -21,6 +21,7 @@ use Rattle.rules.specs.declared.pattern.Position.{Position}
 use Rattle.rules.specs.declared.pattern.Position.the-variants.{Inner}
 use Rattle.rules.specs.Lines.{positionOf}
 use Rattle.rules.specs.Satisfaction.{Valuation}
+use Rattle.rules.specs.Versions.{Version}
 use Rattle.rules.specs.Windows.{windowFrom, PositionSays, RowHolds, Solves}
 
 -- a variable of the window is its stream at its instant
@@ -31,11 +32,11 @@ window-at values start q x l =
     let stream : (64 * q + x) % 64 ≡ x = omega arith in
     ap₂ values instant stream
 
-not-first : (t : ℕ) → 1 ≤ t → isFirst t ≡ false
+pub not-first : (t : ℕ) → 1 ≤ t → isFirst t ≡ false
 not-first zero l = absurd (not-suc-le-zero l)
 not-first (suc t) l = refl
 
-module _ (node : Node) (wf : WellFormedNode node) (few : node .streams ≤ 64) (inputs : Inputs) (values : Streams) (solves : Solution node inputs values) (start : ℕ) where
+module _ (version : Version) (node : Node) (wf : WellFormedNode node) (few : node .streams ≤ 64) (inputs : Inputs) (values : Streams) (solves : Solution node inputs values) (start : ℕ) where
   abbrev window : Valuation
   window = windowFrom values start
 
@@ -61,7 +62,7 @@ module _ (node : Node) (wf : WellFormedNode node) (few : node .streams ≤ 64) (
 
   -- an offset that stands at a place is as the place says
   abbrev SaysAt : Position → (q : ℕ) → Type 0
-  SaysAt place q = PositionSays place (node .streams) (isFirst (start + q)) (before values (start + q)) (at-offset (q - 1))
+  SaysAt place q = PositionSays version place (node .streams) (isFirst (start + q)) (before values (start + q)) (at-offset (q - 1))
 
   place-says : (opening : Position) → SaysAt opening 0 → (q : ℕ) → SaysAt (positionOf opening q) q
   place-says opening begins q = go (eqb q 0) refl
@@ -72,7 +73,7 @@ module _ (node : Node) (wf : WellFormedNode node) (few : node .streams ≤ 64) (
           let some : 1 ≤ q = omega (arith, eqb-false q 0 e) in
           (not-first (start + q) (omega arith), past-in-window q some)
 
-  row-holds : (opening : Position) → SaysAt opening 0 → (q s : ℕ) → s < node .streams → RowHolds node opening window q s
+  row-holds : (opening : Position) → SaysAt opening 0 → (q s : ℕ) → s < node .streams → RowHolds version node opening window q s
   row-holds opening begins q s l =
       let t = start + q in
       record {
@@ -83,7 +84,7 @@ module _ (node : Node) (wf : WellFormedNode node) (few : node .streams ≤ 64) (
         place = place-says opening begins q;
       }
 
-  pub solves-window : (opening : Position) → SaysAt opening 0 → (offsets : ℕ) → Solves node opening offsets window
+  pub solves-window : (opening : Position) → SaysAt opening 0 → (offsets : ℕ) → Solves version node opening offsets window
   solves-window opening begins offsets =
       record {
         fits = λ q s m l. subst (Fits (node .types s)) (at-instant q s l) (solves .fits (start + q) s l);

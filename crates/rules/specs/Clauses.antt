@@ -1,7 +1,7 @@
 -- "Clauses, in order": what each operator's equation says of a window, one list of clauses an operator.
 use Prim.Native.Nat.{ℕ, zero, suc}
 use mathlib.Core.List.{List, [], _∷_, _++_, map}
-use mathlib.Core.Bool.{cond}
+use mathlib.Core.Bool.{Bool, false, cond}
 use lib.IntN.{ℤ, pos, negℤ}
 use lib.Signed.{leZ}
 use Rattle.node.specs.declared.equation.StreamType.{StreamType}
@@ -9,6 +9,7 @@ use Rattle.node.specs.declared.equation.StreamType.the-variants.{Bool as BoolTy
 use Rattle.node.specs.declared.equation.Equation.{Equation}
 use Rattle.node.specs.declared.equation.Equation.the-variants.{Input, Constant, Not, And, Or, Same, Sum, Difference, Multiple, AtMost, Equal, If, Arrow, FollowedBy, Lesser, Greater}
 use Rattle.constraints.specs.Linear.{Bounded}
+use Rattle.rules.specs.Versions.{Version}
 use Rattle.rules.specs.declared.pattern.Linear.{Linear}
 use Rattle.rules.specs.declared.pattern.Pattern.{Pattern}
 use Rattle.rules.specs.declared.pattern.Pattern.the-variants.{Yes, No, Most}
@@ -16,7 +17,7 @@ use Rattle.rules.specs.declared.pattern.Clause.{Clause}
 use Rattle.rules.specs.declared.pattern.Named.{Named}
 use Rattle.rules.specs.declared.pattern.Named.the-variants.{Is, Missing}
 use Rattle.rules.specs.declared.pattern.Position.{Position}
-use Rattle.rules.specs.declared.pattern.Position.the-variants.{Opening, Unsure, Inner}
+use Rattle.rules.specs.declared.pattern.Position.the-variants.{Opening, Entry, Inner}
 
 -- a·x + b·y + c·z is at most bound: "equal variables summed, zeros dropped" is what its coefficients are
 abbrev pub linear : (x : ℕ) (a : ℤ) (y : ℕ) (b : ℤ) (z : ℕ) (c : ℤ) (bound : ℤ) → Linear
@@ -63,44 +64,46 @@ sameAs IntType s t = clause1 (most s t) ∷ clause1 (most t s) ∷ []
 abbrev pub guarded : Pattern → Clause → Clause
 guarded p c = record { count = suc (c .count); first = p; second = c .first; third = c .second }
 
--- operators 12 and 13: at instant 0 the one stream, later the other; none where either may be
-abbrev pub firstThen : StreamType → Position → (s first later : ℕ) → List Clause
-firstThen ty Opening s first later = sameAs ty s first
-firstThen ty Unsure s first later = []
-firstThen ty Inner s first later = sameAs ty s later
+-- operators 12 and 13, "with t the operand chosen": at instant 0 the one stream, later the other; at the step's first offset the later
+-- one or none
+abbrev pub firstThen : StreamType → Position → (enters : Bool) → (s first later : ℕ) → List Clause
+firstThen ty Opening enters s first later = sameAs ty s first
+firstThen ty Entry enters s first later = cond enters (sameAs ty s later) []
+firstThen ty Inner enters s first later = sameAs ty s later
 
 -- the clauses of stream s, by its equation: `now` is a stream at the same offset, `back` one lower
-abbrev pub clauses : StreamType → Equation → Position → (now back : ℕ → ℕ) → (s : ℕ) → List Clause
-clauses ty Input at now back s = []
-clauses BoolType (Constant k) at now back s = clause1 (cond (leZ k (pos 0)) (No s) (Yes s)) ∷ []
-clauses IntType (Constant k) at now back s = equalTo s (pos 0) s (pos 0) s k
-clauses ty (Not a) at now back s = clause2 (Yes s) (Yes (now a)) ∷ clause2 (No s) (No (now a)) ∷ []
-clauses ty (And a b) at now back s =
+abbrev pub clauses : Version → StreamType → Equation → Position → (now back : ℕ → ℕ) → (s : ℕ) → List Clause
+clauses version ty Input at now back s = []
+clauses version BoolType (Constant k) at now back s = clause1 (cond (leZ k (pos 0)) (No s) (Yes s)) ∷ []
+clauses version IntType (Constant k) at now back s = equalTo s (pos 0) s (pos 0) s k
+clauses version ty (Not a) at now back s = clause2 (Yes s) (Yes (now a)) ∷ clause2 (No s) (No (now a)) ∷ []
+clauses version ty (And a b) at now back s =
     clause2 (No s) (Yes (now a)) ∷ clause2 (No s) (Yes (now b)) ∷ clause3 (Yes s) (No (now a)) (No (now b)) ∷ []
-clauses ty (Or a b) at now back s =
+clauses version ty (Or a b) at now back s =
     clause2 (Yes s) (No (now a)) ∷ clause2 (Yes s) (No (now b)) ∷ clause3 (No s) (Yes (now a)) (Yes (now b)) ∷ []
-clauses ty (Same a b) at now back s =
+clauses version ty (Same a b) at now back s =
     clause3 (No s) (No (now a)) (Yes (now b))
     ∷ clause3 (No s) (Yes (now a)) (No (now b))
     ∷ clause3 (Yes s) (Yes (now a)) (Yes (now b))
     ∷ clause3 (Yes s) (No (now a)) (No (now b))
     ∷ []
-clauses ty (Sum a b) at now back s = equalTo s (pos 1) (now a) (pos 1) (now b) (pos 0)
-clauses ty (Difference a b) at now back s = equalTo s (pos 1) (now a) (negℤ (pos 1)) (now b) (pos 0)
-clauses ty (Multiple k a) at now back s = equalTo s k (now a) (pos 0) (now a) (pos 0)
-clauses ty (AtMost a b) at now back s = clause2 (No s) (most (now a) (now b)) ∷ clause2 (Yes s) (less (now b) (now a)) ∷ []
-clauses ty (Equal a b) at now back s =
+clauses version ty (Sum a b) at now back s = equalTo s (pos 1) (now a) (pos 1) (now b) (pos 0)
+clauses version ty (Difference a b) at now back s = equalTo s (pos 1) (now a) (negℤ (pos 1)) (now b) (pos 0)
+clauses version ty (Multiple k a) at now back s = equalTo s k (now a) (pos 0) (now a) (pos 0)
+clauses version ty (AtMost a b) at now back s = clause2 (No s) (most (now a) (now b)) ∷ clause2 (Yes s) (less (now b) (now a)) ∷ []
+clauses version ty (Equal a b) at now back s =
     clause2 (No s) (most (now a) (now b))
     ∷ clause2 (No s) (most (now b) (now a))
     ∷ clause3 (Yes s) (less (now a) (now b)) (less (now b) (now a))
     ∷ []
-clauses ty (If c a b) at now back s =
+clauses version ty (If c a b) at now back s =
     map (guarded (No (now c))) (sameAs ty s (now a)) ++ map (guarded (Yes (now c))) (sameAs ty s (now b))
-clauses ty (Arrow a b) at now back s = firstThen ty at s (now a) (now b)
-clauses ty (FollowedBy a b) at now back s = firstThen ty at s (now a) (back b)
-clauses ty (Lesser a b) at now back s =
+-- "operator 12 at step offset 0 takes b. Operator 13 still gives nothing there.": its b stands before the window
+clauses version ty (Arrow a b) at now back s = firstThen ty at (version .after) s (now a) (now b)
+clauses version ty (FollowedBy a b) at now back s = firstThen ty at false s (now a) (back b)
+clauses version ty (Lesser a b) at now back s =
     clause1 (most s (now a)) ∷ clause1 (most s (now b)) ∷ clause2 (most (now a) s) (most (now b) s) ∷ []
-clauses ty (Greater a b) at now back s =
+clauses version ty (Greater a b) at now back s =
     clause1 (most (now a) s) ∷ clause1 (most (now b) s) ∷ clause2 (most s (now a)) (most s (now b)) ∷ []
 
 -- "clause r, counted from 0"

@@ -6,6 +6,7 @@ use Rattle.node.specs.declared.equation.StreamType.{StreamType}
 use Rattle.node.specs.declared.equation.Equation.{Equation}
 use Rattle.constraints.specs.Layout.{Constraint, Line}
 use Rattle.constraints.specs.Linear.{variable}
+use Rattle.rules.specs.Versions.{Version}
 use Rattle.rules.specs.declared.pattern.Clause.{Clause}
 use Rattle.rules.specs.declared.pattern.Named.{Named}
 use Rattle.rules.specs.declared.pattern.Named.the-variants.{Is, Missing}
@@ -26,11 +27,11 @@ abbrev pub EqualNamed : (ℕ → Constraint) → (m : ℕ) → Line → Named �
 EqualNamed constraints m line Missing = ⊥
 EqualNamed constraints m line (Is c) = LiteralsEqual constraints m line c
 
-pub record EquationLine (n : ℕ) (types : ℕ → StreamType) (equations : ℕ → Equation) (constraints : ℕ → Constraint) (m offsets : ℕ) (opening : Position) (line : Line) : Type 0 where
+pub record EquationLine (version : Version) (n : ℕ) (types : ℕ → StreamType) (equations : ℕ → Equation) (constraints : ℕ → Constraint) (m offsets : ℕ) (opening : Position) (line : Line) : Type 0 where
   pub stream : line .head .p < n
   pub offset : line .head .q < offsets
   pub literals :
       let p = line .head .p in
       let q = line .head .q in
       EqualNamed constraints m line
-      (numbered (clauses (types p) (equations p) (positionOf opening q) (variable q) (variable (q - 1)) (variable q p)) (line .head .r))
+      (numbered (clauses version (types p) (equations p) (positionOf opening q) (variable q) (variable (q - 1)) (variable q p)) (line .head .r))

@@ -14,4 +14,5 @@ pub mod Satisfaction
 pub mod Types
 pub mod Theorems
 pub mod Verdict
+pub mod Versions
 pub mod Windows

@@ -9,11 +9,12 @@ use Rattle.constraints.specs.declared.layout.LineHead.{LineHead}
 use Rattle.constraints.specs.Layout.{Constraint, Line, listedIn}
 use Rattle.constraints.specs.Linear.{variable}
 use Rattle.constraints.specs.Rules.{Types}
+use Rattle.rules.specs.Versions.{Version}
 use Rattle.rules.specs.declared.pattern.Clause.{Clause}
 use Rattle.rules.specs.declared.pattern.Named.{Named}
 use Rattle.rules.specs.declared.pattern.Named.the-variants.{Is, Missing}
 use Rattle.rules.specs.declared.pattern.Position.{Position}
-use Rattle.rules.specs.declared.pattern.Position.the-variants.{Opening, Unsure, Inner}
+use Rattle.rules.specs.declared.pattern.Position.the-variants.{Opening, Entry, Inner}
 use Rattle.rules.specs.Arithmetic.{isMultiplier}
 use Rattle.rules.specs.Clauses.{clauses, numbered}
 use Rattle.rules.specs.Factors.{matchesOf}
@@ -62,11 +63,12 @@ pub record Window : Type 0 where
 abbrev pub notPropertyAt : (prop : ℕ) → (ℕ → ℕ) → (j : ℕ) → Bool
 notPropertyAt prop literal j = eqb (literal j) (negative (variable j prop))
 
--- "Base: q = 0 and not-prop at offsets 0 to k − 1, rising."
-unfoldable pub basePropertyOk : (k prop : ℕ) → Line → Bool
-basePropertyOk k prop line =
+-- "Base: q = 0 and not-prop at offsets 0 to k − 1, rising." "the base covers instants 0 to k, its property line too": as many offsets as
+-- the base covers
+unfoldable pub basePropertyOk : (covered prop : ℕ) → Line → Bool
+basePropertyOk covered prop line =
     eqb (line .head .q) 0
-    && eqb (line .head .count) k
+    && eqb (line .head .count) covered
     && every (notPropertyAt prop (line .literal)) (listedIn line)
 
 -- "Step: prop at q where q is below k; not-prop where q = k."
@@ -77,15 +79,21 @@ stepPropertyOk k prop line =
     && eqb (line .head .count) 1
     && eqb (line .literal 0) (cond (eqb q k) (negative (variable q prop)) (positive (variable q prop)))
 
--- the base: the instants 0 to k − 1; its first offset is instant 0
-abbrev pub baseWindow : (k prop base : ℕ) → Window
-baseWindow k prop base =
-    record { from = 0; until = base; offsets = k; opening = Opening; property = basePropertyOk k prop }
+-- the base: the instants from 0 on that it covers; its first offset is instant 0
+abbrev pub baseWindow : Version → (k prop base : ℕ) → Window
+baseWindow version k prop base =
+    record {
+      from = 0;
+      until = base;
+      offsets = version .covered k;
+      opening = Opening;
+      property = basePropertyOk (version .covered k) prop;
+    }
 
--- the step: any k + 1 instants in a row; its first offset is any instant
+-- the step: k + 1 instants in a row, any of version 1, any after instant 0 of version 2
 abbrev pub stepWindow : (k prop base step : ℕ) → Window
 stepWindow k prop base step =
-    record { from = base; until = base + step; offsets = k + 1; opening = Unsure; property = stepPropertyOk k prop }
+    record { from = base; until = base + step; offsets = k + 1; opening = Entry; property = stepPropertyOk k prop }
 
 -- where an offset of a part stands
 abbrev pub positionOf : (opening : Position) → (offset : ℕ) → Position
@@ -110,19 +118,19 @@ pub record Streams : Type 0 where
   pub types : ℕ → StreamType
   pub equations : ℕ → Equation
 
--- 17, the test: "clause r, counted from 0, of stream p at offset q (base: below k; step: up to k)". Equations.antt has the words.
-unfoldable pub equationIn : (n : ℕ) (types : ℕ → StreamType) (equations : ℕ → Equation) → (ℕ → Constraint) → (m offsets : ℕ) → (opening : Position) → Line → Bool
-equationIn n types equations constraints m offsets opening line =
+-- 17, the test: "clause r, counted from 0, of stream p at offset q", which the part has. Equations.antt has the words.
+unfoldable pub equationIn : Version → (n : ℕ) (types : ℕ → StreamType) (equations : ℕ → Equation) → (ℕ → Constraint) → (m offsets : ℕ) → (opening : Position) → Line → Bool
+equationIn version n types equations constraints m offsets opening line =
     let p = line .head .p in
     let q = line .head .q in
     ltb p n
     && ltb q offsets
     && literalsAre constraints m line
-    (numbered (clauses (types p) (equations p) (positionOf opening q) (variable q) (variable (q - 1)) (variable q p)) (line .head .r))
+    (numbered (clauses version (types p) (equations p) (positionOf opening q) (variable q) (variable (q - 1)) (variable q p)) (line .head .r))
 
-abbrev pub equationOk : Streams → (ℕ → Constraint) → (m : ℕ) → Window → Line → Bool
-equationOk node constraints m w =
-    equationIn (node .count) (node .types) (node .equations) constraints m (w .offsets) (w .opening)
+abbrev pub equationOk : Version → Streams → (ℕ → Constraint) → (m : ℕ) → Window → Line → Bool
+equationOk version node constraints m w =
+    equationIn version (node .count) (node .types) (node .equations) constraints m (w .offsets) (w .opening)
 
 -- a rule's number where its test fails, else what the rules after it give
 abbrev pub unless : (ok : Bool) → (number rest : ℕ) → ℕ

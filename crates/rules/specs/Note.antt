@@ -6,13 +6,14 @@ use lib.ListN.{length}
 use Rattle.node.specs.Rules.{lengthOk}
 use Rattle.constraints.specs.Layout.{trailerOf, sizeOf}
 use Rattle.constraints.specs.Rules.{fixedOk, countsOk, distanceOk}
+use Rattle.rules.specs.Versions.{Version}
 
 -- 11 to 14 pass
-unfoldable pub fileOk : List ℕ → Bool
-fileOk cert =
+unfoldable pub fileOk : Version → List ℕ → Bool
+fileOk version cert =
     lengthOk (length cert)
-    && (fixedOk (trailerOf cert) && countsOk (trailerOf cert) && distanceOk (trailerOf cert) (length cert))
+    && (fixedOk (version .byte) (trailerOf cert) && countsOk (trailerOf cert) && distanceOk (trailerOf cert) (length cert))
 
 -- how many bytes the note has
-unfoldable pub noteLength : List ℕ → ℕ
-noteLength cert = cond (fileOk cert) (length cert - sizeOf (trailerOf cert)) 0
+unfoldable pub noteLength : Version → List ℕ → ℕ
+noteLength version cert = cond (fileOk version cert) (length cert - sizeOf (trailerOf cert)) 0

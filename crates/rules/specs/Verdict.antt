@@ -15,6 +15,7 @@ use Rattle.node.specs.Rules.{lengthOk}
 use Rattle.node.specs.Verdict.{verdictOf as nodeVerdict}
 use Rattle.constraints.specs.Layout.{trailerOf, constraintOf, lineOf}
 use Rattle.constraints.specs.Rules.{Types, fixedOk, countsOk, distanceOk, constraintOk}
+use Rattle.rules.specs.Versions.{Version, version1}
 use Rattle.rules.specs.Types.{typesBelow}
 use Rattle.rules.specs.Arithmetic.{arithmeticOk}
 use Rattle.rules.specs.Cuts.{cutOk}
@@ -35,24 +36,24 @@ abbrev pub linesOf : (cert : List ℕ) → ℕ
 linesOf cert = trailerOf cert .base + trailerOf cert .step
 
 -- the part that line i stands in, for a property stream
-abbrev pub partOf : (cert : List ℕ) → (property i : ℕ) → Window
-partOf cert property i =
+abbrev pub partOf : Version → (cert : List ℕ) → (property i : ℕ) → Window
+partOf version cert property i =
     let t = trailerOf cert in
-    cond (ltb i (t .base)) (baseWindow (t .depth) property (t .base)) (stepWindow (t .depth) property (t .base) (t .step))
+    cond (ltb i (t .base)) (baseWindow version (t .depth) property (t .base)) (stepWindow (t .depth) property (t .base) (t .step))
 
-abbrev pub windowOf : (node cert : List ℕ) → (i : ℕ) → Window
-windowOf node cert i = partOf cert (propertyOf node) i
+abbrev pub windowOf : Version → (node cert : List ℕ) → (i : ℕ) → Window
+windowOf version node cert i = partOf version cert (propertyOf node) i
 
 -- the two parts
-abbrev pub baseOf : (node cert : List ℕ) → Window
-baseOf node cert = let t = trailerOf cert in baseWindow (t .depth) (propertyOf node) (t .base)
+abbrev pub baseOf : Version → (node cert : List ℕ) → Window
+baseOf version node cert = let t = trailerOf cert in baseWindow version (t .depth) (propertyOf node) (t .base)
 
 abbrev pub stepOf : (node cert : List ℕ) → Window
 stepOf node cert = let t = trailerOf cert in stepWindow (t .depth) (propertyOf node) (t .base) (t .step)
 
--- the first line of that part
+-- the first line of the part that line i stands in
 abbrev pub firstLine : (cert : List ℕ) → (i : ℕ) → ℕ
-firstLine cert i = partOf cert 0 i .from
+firstLine cert i = cond (ltb i (trailerOf cert .base)) 0 (trailerOf cert .base)
 
 -- rule 15, of constraint i
 abbrev pub constraintPasses : (node cert : List ℕ) → (i : ℕ) → Bool
@@ -64,18 +65,18 @@ shapePasses node cert i =
     shapeOk (typesOfNode node) (trailerOf cert .depth) (trailerOf cert .constraints) (lineOf cert i)
 
 -- rule 17, of line i: the words, and the test
-abbrev pub EquationKept : (node cert : List ℕ) → (i : ℕ) → Type 0
-EquationKept node cert i =
-    let w = windowOf node cert i in
-    EquationLine (streamsOf node) (typeAt node) (equationAt node) (constraintOf cert) (trailerOf cert .constraints) (w .offsets) (w .opening) (lineOf cert i)
+abbrev pub EquationKept : Version → (node cert : List ℕ) → (i : ℕ) → Type 0
+EquationKept version node cert i =
+    let w = windowOf version node cert i in
+    EquationLine version (streamsOf node) (typeAt node) (equationAt node) (constraintOf cert) (trailerOf cert .constraints) (w .offsets) (w .opening) (lineOf cert i)
 
-abbrev pub equationPasses : (node cert : List ℕ) → (i : ℕ) → Bool
-equationPasses node cert i =
-    equationOk (streamsOfNode node) (constraintOf cert) (trailerOf cert .constraints) (windowOf node cert i) (lineOf cert i)
+abbrev pub equationPasses : Version → (node cert : List ℕ) → (i : ℕ) → Bool
+equationPasses version node cert i =
+    equationOk version (streamsOfNode node) (constraintOf cert) (trailerOf cert .constraints) (windowOf version node cert i) (lineOf cert i)
 
 -- rule 18, of line i
-abbrev pub propertyPasses : (node cert : List ℕ) → (i : ℕ) → Bool
-propertyPasses node cert i = windowOf node cert i .property (lineOf cert i)
+abbrev pub propertyPasses : Version → (node cert : List ℕ) → (i : ℕ) → Bool
+propertyPasses version node cert i = windowOf version node cert i .property (lineOf cert i)
 
 -- rule 19, of line i
 abbrev pub joinPasses : (cert : List ℕ) → (i : ℕ) → Bool
@@ -90,18 +91,18 @@ abbrev pub cutPasses : (cert : List ℕ) → (i : ℕ) → Bool
 cutPasses cert i = cutOk (constraintOf cert) (lineOf cert i)
 
 -- the number of its kind's rule, where line i breaks it, else 0
-abbrev pub ownFault : (node cert : List ℕ) → (i : ℕ) → ℕ
-ownFault node cert i =
-    kindFault (lineOf cert i .head .kind) (equationPasses node cert i) (propertyPasses node cert i) (joinPasses cert i) (arithmeticPasses cert i) (cutPasses cert i)
+abbrev pub ownFault : Version → (node cert : List ℕ) → (i : ℕ) → ℕ
+ownFault version node cert i =
+    kindFault (lineOf cert i .head .kind) (equationPasses version node cert i) (propertyPasses version node cert i) (joinPasses cert i) (arithmeticPasses cert i) (cutPasses cert i)
 
 -- "lines are taken one at a time, 16 before its kind's number": the number of the first rule that line i breaks, 0 where it breaks
 -- none
-unfoldable pub lineFault : (node cert : List ℕ) → (i : ℕ) → ℕ
-lineFault node cert i =
-    unless (shapePasses node cert i) 16 (ownFault node cert i)
+unfoldable pub lineFault : Version → (node cert : List ℕ) → (i : ℕ) → ℕ
+lineFault version node cert i =
+    unless (shapePasses node cert i) 16 (ownFault version node cert i)
 
-abbrev pub linePasses : (node cert : List ℕ) → (i : ℕ) → Bool
-linePasses node cert i = eqb (lineFault node cert i) 0
+abbrev pub linePasses : Version → (node cert : List ℕ) → (i : ℕ) → Bool
+linePasses version node cert i = eqb (lineFault version node cert i) 0
 
 -- the lowest line at fault, refused with the number of what it breaks
 abbrev pub checkLines : Found → (number : ℕ → ℕ) → Answer CertificateValues → Answer CertificateValues
@@ -113,16 +114,16 @@ abbrev pub valuesOf : (cert : List ℕ) → CertificateValues
 valuesOf cert = let t = trailerOf cert in record { depth = t .depth; base = t .base; step = t .step }
 
 -- 21: "base first, after all lines"
-unfoldable pub partsVerdict : (node cert : List ℕ) → Answer CertificateValues
-partsVerdict node cert =
-    check (hasEmpty (lineOf cert) (baseOf node cert)) 21 Base
+unfoldable pub partsVerdict : Version → (node cert : List ℕ) → Answer CertificateValues
+partsVerdict version node cert =
+    check (hasEmpty (lineOf cert) (baseOf version node cert)) 21 Base
     (check (hasEmpty (lineOf cert) (stepOf node cert)) 21 Step
     (accepted (valuesOf cert)))
 
 -- the checks of lines and parts: 16 to 20 and 22, then 21
-unfoldable pub linesVerdict : (node cert : List ℕ) → Answer CertificateValues
-linesVerdict node cert =
-    checkLines (lowest (linePasses node cert) (linesOf cert)) (lineFault node cert) (partsVerdict node cert)
+unfoldable pub linesVerdict : Version → (node cert : List ℕ) → Answer CertificateValues
+linesVerdict version node cert =
+    checkLines (lowest (linePasses version node cert) (linesOf cert)) (lineFault version node cert) (partsVerdict version node cert)
 
 -- the checks of the constraints: 15
 unfoldable pub constraintsVerdict : (node cert : List ℕ) → Answer (Unit {0})
@@ -130,17 +131,22 @@ constraintsVerdict node cert =
     checkAll (lowest (constraintPasses node cert) (trailerOf cert .constraints)) 15 AtConstraint (accepted tt)
 
 -- the checks of the certificate file, then those of its constraints: 11 to 15
-unfoldable pub fileVerdict : (node cert : List ℕ) → Answer (Unit {0})
-fileVerdict node cert =
+unfoldable pub fileVerdict : Version → (node cert : List ℕ) → Answer (Unit {0})
+fileVerdict version node cert =
     check (lengthOk (length cert)) 11 File
-    (check (fixedOk (trailerOf cert)) 12 File
+    (check (fixedOk (version .byte) (trailerOf cert)) 12 File
     (check (countsOk (trailerOf cert)) 13 File
     (check (distanceOk (trailerOf cert) (length cert)) 14 File
     (constraintsVerdict node cert))))
 
 -- the checks before any line: "Certificate checks follow 1 to 8."
-unfoldable pub beforeLines : (node cert : List ℕ) → Answer (Unit {0})
-beforeLines node cert = andThen (nodeVerdict node) (fileVerdict node cert)
+unfoldable pub beforeLines : Version → (node cert : List ℕ) → Answer (Unit {0})
+beforeLines version node cert = andThen (nodeVerdict node) (fileVerdict version node cert)
 
-unfoldable pub verdictOf : (node cert : List ℕ) → Answer CertificateValues
-verdictOf node cert = andThen (beforeLines node cert) (linesVerdict node cert)
+-- the answer by the rules of a version. Those of version 2 are what the code answers by.
+unfoldable pub verdictOf : Version → (node cert : List ℕ) → Answer CertificateValues
+verdictOf version node cert = andThen (beforeLines version node cert) (linesVerdict version node cert)
+
+-- "Archived verdicts and the theorem behind them remain": what was answered before version 2. No code answers so any more.
+abbrev pub archivedVerdict : (node cert : List ℕ) → Answer CertificateValues
+archivedVerdict node cert = verdictOf version1 node cert

@@ -35,9 +35,9 @@ pub enum Named {
     Missing,
 }
 
-// Where in a window an equation stands: at its first offset as instant 0, at its first offset as any instant, or later.
+// Where in a window an equation stands: at the base's first offset, which is instant 0, at the step's first offset, or later.
 pub enum Position {
     Opening,
-    Unsure,
+    Entry,
     Inner,
 }

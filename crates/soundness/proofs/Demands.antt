@@ -14,9 +14,11 @@ use Rattle.streams.proofs.AcceptedNodes.{one-solution}
 use Rattle.session.specs.Lists.{Answered}
 use Rattle.session.specs.Theorems.{Shows}
 use Rattle.session.proofs.Sessions.{sessions-exact}
-use Rattle.soundness.specs.Demands.{ShowsProperty, Demand3}
-use Rattle.rules.specs.Theorems.{PropertyHolds}
-use Rattle.soundness.proofs.Soundness.{sound}
+use Rattle.soundness.specs.Demands.{ShowsProperty, DemandFor, Demand3}
+use Rattle.rules.specs.Theorems.{PropertyHolds, Covers}
+use Rattle.rules.specs.Versions.{Version, version2}
+use Rattle.rules.proofs.Soundness.{current-covers}
+use Rattle.soundness.proofs.Soundness.{sound-for}
 
 -- a solution on inputs that start with the answered ones has the property, and the slices have its values
 pub property-shown : (node : List ℕ) {v : NodeValues} → nodeVerdict node ≡ accepted v → PropertyHolds node → (done : List Answered) → Shows node done → ShowsProperty node done
@@ -26,14 +28,17 @@ property-shown node e holds done shows t l =
     shows .shown t l (of-w .inputs) (of-w .typed) (λ j m. of-w .starts j (omega arith)) w (of-w .solves) (propertyOf node) (sizes node (node-keeps node e .file) .property)
     ∙ holds (of-w .inputs) (of-w .typed) w (of-w .solves) t
 
-pub demand-3 : Demand3
-demand-3 node cert v e before calls =
-    let begins = keeps-accepted node (accepted-keeps node cert e .node-rules) in
+pub demand-for : (version : Version) → Covers version → DemandFor version
+demand-for version covers node cert v e before calls =
+    let begins = keeps-accepted node (accepted-keeps version node cert e .node-rules) in
     let exact = sessions-exact node _ begins before calls in
     record {
       one-solution = one-solution node begins;
-      property = sound node cert v e;
+      property = sound-for version covers node cert v e;
       begins = begins;
       shows = exact .0;
-      shows-property = property-shown node begins (sound node cert v e) _ (exact .0);
+      shows-property = property-shown node begins (sound-for version covers node cert v e) _ (exact .0);
     }
+
+pub demand-3 : Demand3
+demand-3 = demand-for version2 current-covers

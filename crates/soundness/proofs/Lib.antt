@@ -1,3 +1,4 @@
+pub mod Archive
 pub mod Demands
 pub mod Soundness
 pub mod StarredCases

@@ -8,6 +8,7 @@ use Rattle.answers.specs.Answer.{accepted, CertificateValues}
 use Rattle.node.specs.Layout.{streamsOf, propertyOf}
 use Rattle.node.specs.Verdict.{verdictOf as nodeVerdict}
 use Rattle.rules.specs.Verdict.{verdictOf}
+use Rattle.rules.specs.Versions.{Version, version2}
 use Rattle.streams.specs.Theorems.{OneSolution}
 use Rattle.streams.specs.Values.{valuesIn}
 use Rattle.session.specs.declared.Session.{Session}
@@ -34,7 +35,11 @@ pub record Demanded (node : List ℕ) (before : Session) (calls : List Call) : T
 
 -- "a certificate is accepted for a node if a call given both files answers so": whatever bytes these hold, whatever the record held
 -- before the beginning, whatever the calls
-abbrev pub Demand3 : Type 0
-Demand3 =
-    (node cert : List ℕ) (v : CertificateValues) → verdictOf node cert ≡ accepted v
+abbrev pub DemandFor : Version → Type 0
+DemandFor version =
+    (node cert : List ℕ) (v : CertificateValues) → verdictOf version node cert ≡ accepted v
     → (before : Session) (calls : List Call) → Demanded node before calls
+
+-- of the version that is checked
+abbrev pub Demand3 : Type 0
+Demand3 = DemandFor version2

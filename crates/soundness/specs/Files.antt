@@ -5,6 +5,7 @@ use lib.IntN.{ℤ}
 use lib.ListN.{length, replicate}
 use Rattle.fields.specs.Written.{u16Bytes, u32Bytes}
 use Rattle.node.specs.declared.layout.Record.{Record}
+use Rattle.rules.specs.Versions.{Version}
 
 -- a record by its fields, the last four bytes zero
 abbrev pub rec : (op ty a b c : ℕ) → (k : ℤ) → Record
@@ -40,12 +41,12 @@ line kind p q r literals multipliers =
     ++ padded 24 (foldr (λ l rest. u16Bytes l ++ rest) [] literals)
     ++ padded 48 (foldr (λ m rest. u32Bytes m ++ rest) [] multipliers)
 
--- "0x4B, 0x43, version 1, depth k (1 to 8); u16 counts of constraints (0 to 256), base lines, step lines; two zero bytes; u32 distance
+-- of a version: "0x4B, 0x43, version 1, depth k (1 to 8); u16 counts of constraints (0 to 256), base lines, step lines; two zero bytes; u32 distance
 -- back to the first constraint, or where there is none to the first line, 16 + 80·(sum of the counts)"
-unfoldable pub certificateFile : (k : ℕ) → (constraints base step : List (List ℕ)) → List ℕ
-certificateFile k constraints base step =
+unfoldable pub certificateFile : Version → (k : ℕ) → (constraints base step : List (List ℕ)) → List ℕ
+certificateFile version k constraints base step =
     foldr _++_
-    ((0x4B ∷ 0x43 ∷ 1 ∷ k ∷ [])
+    ((0x4B ∷ 0x43 ∷ version .byte ∷ k ∷ [])
     ++ (u16Bytes (length constraints) ++ u16Bytes (length base) ++ u16Bytes (length step))
     ++ replicate 2 0
     ++ u32Bytes (16 + 80 * (length constraints + length base + length step)))

@@ -1,3 +1,4 @@
+pub mod Archive
 pub mod Demands
 pub mod Files
 pub mod Starred

@@ -1,6 +1,7 @@
--- The starred cases: one list, and one theorem over the list (proofs/StarredCases.antt).
+-- The starred cases: one list, and one theorem over the list (proofs/StarredCases.antt); and one list of the archive's, those on
+-- certificates as they were answered in version 1, with its theorem.
 use mathlib.Core.Path.{_≡_}
-use Prim.Native.Nat.{ℕ, zero, suc, _+_, _*_, _<_}
+use Prim.Native.Nat.{ℕ, zero, suc, _+_, _-_, _*_, _<_}
 use mathlib.Core.List.{List, [], _∷_, _++_}
 use lib.IntN.{ℤ, pos, negℤ}
 use lib.ListN.{length, replicate}
@@ -14,6 +15,7 @@ use Rattle.node.specs.Written.{nodeFile}
 use Rattle.constraints.specs.Linear.{variable}
 use Rattle.literals.specs.Literals.{negative}
 use Rattle.rules.specs.Verdict.{verdictOf}
+use Rattle.rules.specs.Versions.{Version, version1, version2}
 use Rattle.streams.specs.Nodes.{nodeOf}
 use Rattle.streams.specs.Solutions.{Streams, Solution}
 use Rattle.streams.specs.Typing.{Inputs, TypedInstant}
@@ -37,8 +39,8 @@ pub data Case : Type 0 where
   negatedIs : (stream offset literal : ℕ) → Case
   -- the answer to a node file
   reads : (file : List ℕ) → Answer NodeValues → Case
-  -- the answer to a node file and a certificate
-  checks : (node cert : List ℕ) → Answer CertificateValues → Case
+  -- the answer to a node file and a certificate, by the rules of a version
+  checks : Version → (node cert : List ℕ) → Answer CertificateValues → Case
 
 -- "Records: 0, 1 inputs; 2 not 0; 3 = 1 and 2; 4 = 0 and 3; 5 not 4, the property."
 unfoldable pub twoBands : List ℕ
@@ -76,10 +78,10 @@ isNot j s = negative (variable j s)
 abbrev prop : (j : ℕ) → ℕ
 prop j = is j 0
 
--- not-prop at the offsets from j on
-abbrev negations : (j left : ℕ) → List ℕ
-negations j zero = []
-negations j (suc left) = isNot j 0 ∷ negations (suc j) left
+-- a stream negated at the offsets from j on
+abbrev negations : (s j left : ℕ) → List ℕ
+negations s j zero = []
+negations s j (suc left) = isNot j s ∷ negations s (suc j) left
 
 -- the equations at the offsets from j on, lines 1 and on
 abbrev equations : (j left : ℕ) → List (List ℕ)
@@ -89,11 +91,11 @@ equations j (suc left) = line 1 0 j 0 (prop j ∷ []) [] ∷ equations (suc j) l
 -- the property line's literals struck one by one: `last` is the line before
 abbrev strikes : (last j left : ℕ) → (at : ℕ) → List (List ℕ)
 strikes last j zero at = []
-strikes last j (suc left) at = line 3 (suc j) last (prop j) (negations (suc j) left) [] ∷ strikes at (suc j) left (suc at)
+strikes last j (suc left) at = line 3 (suc j) last (prop j) (negations 0 (suc j) left) [] ∷ strikes at (suc j) left (suc at)
 
--- the base of depth k strikes the property line's literals one by one
-abbrev base : (k : ℕ) → List (List ℕ)
-base k = (line 2 0 0 0 (negations 0 k) [] ∷ equations 0 k) ++ strikes 0 0 k (k + 1)
+-- a base that covers so many offsets strikes the property line's literals one by one
+abbrev base : (covered : ℕ) → List (List ℕ)
+base n = (line 2 0 0 0 (negations 0 0 n) [] ∷ equations 0 n) ++ strikes 0 0 n (n + 1)
 
 -- the step, its lines numbered from `first` on, has one literal to strike
 abbrev step : (first k : ℕ) → List (List ℕ)
@@ -104,46 +106,64 @@ step first k =
     ∷ []
 
 -- a whole certificate for it at depth k
-unfoldable pub ofDepth : (k : ℕ) → List ℕ
-ofDepth k = certificateFile k [] (base k) (step (2 * k + 1) k)
+unfoldable pub ofDepth : Version → (k : ℕ) → List ℕ
+ofDepth version k =
+    let n = version .covered k in
+    certificateFile version k [] (base n) (step (2 * n + 1) k)
 
 -- 0 the constant true, the property; 1 and 2 int inputs
 unfoldable pub trueAndInts : List ℕ
 trueAndInts = nodeFile (rec 1 0 0 0 0 (pos 1) ∷ rec 0 1 0 0 0 (pos 0) ∷ rec 0 1 0 0 0 (pos 0) ∷ []) 0
 
--- a whole certificate for it whose last base line, 3, is of kind 4 with multipliers 1 and 1: its literals are the negations of
+-- a whole certificate for it whose last base line is of kind 4 with multipliers 1 and 1: its literals are the negations of
 -- "u − v at most" one bound and "v − u at most" another, u and v being 1 and 2, so that these two are its opposites
-unfoldable pub opposites : (one other : List ℕ) → List ℕ
-opposites one other =
-    certificateFile 1
+unfoldable pub opposites : Version → (one other : List ℕ) → List ℕ
+opposites version one other =
+    let n = version .covered 1 in
+    certificateFile version 1
     (atMost (term 1 (plusOne 4) ∷ term 2 (minusOne 4) ∷ []) one ∷ atMost (term 1 (minusOne 4) ∷ term 2 (plusOne 4) ∷ []) other ∷ [])
-    (base 1 ++ line 4 0 0 0 (negative 576 ∷ negative 577 ∷ []) (1 ∷ 1 ∷ []) ∷ [])
-    (step 4 1)
+    (base n ++ line 4 0 0 0 (negative 576 ∷ negative 577 ∷ []) (1 ∷ 1 ∷ []) ∷ [])
+    (step (2 * n + 2) 1)
 
--- "{!5}, {5, 4}, join {4}, {!4, 0}, join {0}, {!4, 3}, join {3}, {!3, 2}, join {2}, {!2, !0}, join {!0}, join { }: 12 lines", at an
--- offset, its lines numbered from `first` on
-abbrev bands : (offset first : ℕ) → List (List ℕ)
-bands j first =
-    line 2 0 j 0 (isNot j 5 ∷ []) []
-    ∷ line 1 5 j 0 (is j 5 ∷ is j 4 ∷ []) []
-    ∷ line 3 first (first + 1) (isNot j 5) (is j 4 ∷ []) []
+-- "{5, 4}, join {4}, {!4, 0}, join {0}, {!4, 3}, join {3}, {!3, 2}, join {2}, {!2, !0}, join {!0}, join { }" at an offset, its lines
+-- numbered from `first` on: `from` is the line with "{!5}", and `rest` what else stands in that, which all joins but none of the equations
+-- have too
+abbrev strike : (offset from first : ℕ) → (rest : List ℕ) → List (List ℕ)
+strike j from first rest =
+    line 1 5 j 0 (is j 5 ∷ is j 4 ∷ []) []
+    ∷ line 3 from first (isNot j 5) (is j 4 ∷ rest) []
     ∷ line 1 4 j 0 (isNot j 4 ∷ is j 0 ∷ []) []
-    ∷ line 3 (first + 2) (first + 3) (is j 4) (is j 0 ∷ []) []
+    ∷ line 3 (first + 1) (first + 2) (is j 4) (is j 0 ∷ rest) []
     ∷ line 1 4 j 1 (isNot j 4 ∷ is j 3 ∷ []) []
-    ∷ line 3 (first + 2) (first + 5) (is j 4) (is j 3 ∷ []) []
+    ∷ line 3 (first + 1) (first + 4) (is j 4) (is j 3 ∷ rest) []
     ∷ line 1 3 j 1 (isNot j 3 ∷ is j 2 ∷ []) []
-    ∷ line 3 (first + 6) (first + 7) (is j 3) (is j 2 ∷ []) []
+    ∷ line 3 (first + 5) (first + 6) (is j 3) (is j 2 ∷ rest) []
     ∷ line 1 2 j 1 (isNot j 2 ∷ isNot j 0 ∷ []) []
-    ∷ line 3 (first + 8) (first + 9) (is j 2) (isNot j 0 ∷ []) []
-    ∷ line 3 (first + 4) (first + 10) (is j 0) [] []
+    ∷ line 3 (first + 7) (first + 8) (is j 2) (isNot j 0 ∷ rest) []
+    ∷ line 3 (first + 3) (first + 9) (is j 0) rest []
     ∷ []
 
--- the two bands' certificate, whole, and with its step alone
-unfoldable pub bandsWhole : List ℕ
-bandsWhole = certificateFile 1 [] (bands 0 0) (bands 1 12)
+-- the same at so many offsets from j on, each from the line before its first
+abbrev strikeAll : (j first left : ℕ) → List (List ℕ)
+strikeAll j first zero = []
+strikeAll j first (suc left) = strike j (first - 1) first (negations 5 (suc j) left) ++ strikeAll (suc j) (first + 11) left
 
-unfoldable pub stepAlone : List ℕ
-stepAlone = certificateFile 1 [] [] (bands 1 0)
+-- the base of the two bands: of 12 lines in version 1, "redone at both base instants" of 23
+abbrev bandsBase : (covered : ℕ) → List (List ℕ)
+bandsBase n = line 2 0 0 0 (negations 5 0 n) [] ∷ strikeAll 0 1 n
+
+-- "The step is the same at offset 1.", its lines numbered from `first` on
+abbrev bandsStep : (first : ℕ) → List (List ℕ)
+bandsStep first = line 2 0 1 0 (isNot 1 5 ∷ []) [] ∷ strike 1 first (first + 1) []
+
+-- the two bands' certificate, whole, and with its step alone
+unfoldable pub bandsWhole : Version → List ℕ
+bandsWhole version =
+    let n = version .covered 1 in
+    certificateFile version 1 [] (bandsBase n) (bandsStep (11 * n + 1))
+
+unfoldable pub stepAlone : Version → List ℕ
+stepAlone version = certificateFile version 1 [] [] (bandsStep 0)
 
 -- both bands are asked for at once
 abbrev pub bothAsked : FirstCall
@@ -183,17 +203,31 @@ cases =
     ∷ refuses doubling (pos 4611686018427387904 ∷ []) 34 (AtRecord 1)
     ∷ answers leastDoubled
     -- "*Opposites "u − v at most −1" and "v − u at most 0" pass as kind 4, multipliers 1 and 1; *with both bounds 0 it is 20."
-    ∷ checks trueAndInts (opposites (minusOne 8) (noughts 8)) (accepted (record { depth = 1; base = 4; step = 3 }))
-    ∷ checks trueAndInts (opposites (noughts 8) (noughts 8)) (refused 20 (AtLine 3))
+    ∷ checks version2 trueAndInts (opposites version2 (minusOne 8) (noughts 8)) (accepted (record { depth = 1; base = 6; step = 3 }))
+    ∷ checks version2 trueAndInts (opposites version2 (noughts 8) (noughts 8)) (refused 20 (AtLine 5))
     -- "*Depth 8 passes, *9 is 13."
-    ∷ checks constantTrue (ofDepth 8) (accepted (record { depth = 8; base = 17; step = 3 }))
-    ∷ checks constantTrue (ofDepth 9) (refused 13 File)
+    ∷ checks version2 constantTrue (ofDepth version2 8) (accepted (record { depth = 8; base = 19; step = 3 }))
+    ∷ checks version2 constantTrue (ofDepth version2 9) (refused 13 File)
     -- "*n = 64 passes, *65 is 3."
     ∷ reads (ofSize 64) (accepted (record { streams = 64; property = 0 }))
     ∷ reads (ofSize 65) (refused 3 File)
+    -- "The two-band certificate, redone at both base instants, prints base 23 and step 12."
+    ∷ checks version2 twoBands (bandsWhole version2) (accepted (record { depth = 1; base = 23; step = 12 }))
     -- "*No base lines: 21.", though the step's lines are those of an accepted certificate
-    ∷ checks twoBands bandsWhole (accepted (record { depth = 1; base = 12; step = 12 }))
-    ∷ checks twoBands stepAlone (refused 21 Base)
+    ∷ checks version2 twoBands (stepAlone version2) (refused 21 Base)
+    -- "Version 1 files are now refused with 12.", such as the first that was accepted
+    ∷ checks version2 twoBands (bandsWhole version1) (refused 12 File)
+    ∷ []
+
+-- the same cases on certificates as they stood before version 2
+unfoldable pub archivedCases : List Case
+archivedCases =
+    checks version1 trueAndInts (opposites version1 (minusOne 8) (noughts 8)) (accepted (record { depth = 1; base = 4; step = 3 }))
+    ∷ checks version1 trueAndInts (opposites version1 (noughts 8) (noughts 8)) (refused 20 (AtLine 3))
+    ∷ checks version1 constantTrue (ofDepth version1 8) (accepted (record { depth = 8; base = 17; step = 3 }))
+    ∷ checks version1 constantTrue (ofDepth version1 9) (refused 13 File)
+    ∷ checks version1 twoBands (bandsWhole version1) (accepted (record { depth = 1; base = 12; step = 12 }))
+    ∷ checks version1 twoBands (stepAlone version1) (refused 21 Base)
     ∷ []
 
 -- the file is accepted and the inputs are typed; the call is answered and leaves the values; and every solution on inputs that start
@@ -211,7 +245,10 @@ Holds (answers c) = Answers c
 Holds (refuses file inputs number place) = answerOf (begun file) inputs (streamsOf file) ≡ refused number place
 Holds (negatedIs stream offset literal) = negative (variable offset stream) ≡ literal
 Holds (reads file answer) = nodeVerdict file ≡ answer
-Holds (checks node cert answer) = verdictOf node cert ≡ answer
+Holds (checks version node cert answer) = verdictOf version node cert ≡ answer
 
 abbrev pub Starred : Type 0
 Starred = All Holds cases
+
+abbrev pub ArchivedStarred : Type 0
+ArchivedStarred = All Holds archivedCases

@@ -5,7 +5,12 @@ use mathlib.Core.List.{List}
 use Rattle.answers.specs.Answer.{accepted, CertificateValues}
 use Rattle.rules.specs.Theorems.{PropertyHolds}
 use Rattle.rules.specs.Verdict.{verdictOf}
+use Rattle.rules.specs.Versions.{Version, version2}
 
--- whatever bytes the two files hold
+-- of a version, whatever bytes the two files hold
+abbrev pub SoundFor : Version → Type 0
+SoundFor version = (node cert : List ℕ) (v : CertificateValues) → verdictOf version node cert ≡ accepted v → PropertyHolds node
+
+-- of the version that is checked
 abbrev pub Sound : Type 0
-Sound = (node cert : List ℕ) (v : CertificateValues) → verdictOf node cert ≡ accepted v → PropertyHolds node
+Sound = SoundFor version2

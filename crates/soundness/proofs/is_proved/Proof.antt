@@ -5,12 +5,13 @@ use mathlib.Core.Bool.{false≢true}
 use denote.Ref.{now}
 use Rattle.answers.specs.Answer.{certificateAnswer}
 use Rattle.rules.specs.Verdict.{verdictOf}
+use Rattle.rules.specs.Versions.{version2}
 use Rattle.soundness.proofs.Soundness.{sound}
 use borrow.Author.Needs.{needs}
 use Rattle.soundness.proofs.is_proved.Statement.{statement}
 use Rattle.soundness.proofs.is_proved.Tie as tie
 
-verdict-is : (c : tie.After-verdict) → let a = c .before .before .before .args in verdictOf (now (a .node)) (now (a .cert)) ≡ certificateAnswer (c .verdict .result)
+verdict-is : (c : tie.After-verdict) → let a = c .before .before .before .args in verdictOf version2 (now (a .node)) (now (a .cert)) ≡ certificateAnswer (c .verdict .result)
 verdict-is c = sym (c .verdict .ensures)
 
 verdict-requires : tie.Need-verdict-requires

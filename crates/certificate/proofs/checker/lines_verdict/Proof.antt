@@ -15,6 +15,7 @@ use Rattle.answers.specs.Answer.{refused}
 use Rattle.answers.specs.Checks.{lowest}
 use Rattle.answers.proofs.Lowest.{none, found}
 use Rattle.rules.specs.Verdict.{linePasses, linesVerdict}
+use Rattle.rules.specs.Versions.{version2}
 use Rattle.certificate.specs.declared.frame.Frame.{Frame}
 use Rattle.certificate.proofs.LineFacts.{framed}
 use Rattle.certificate.proofs.checker.lines_verdict.Statement.{statement}
@@ -22,7 +23,7 @@ use Rattle.certificate.proofs.checker.lines_verdict.Tie as tie
 
 abbrev Inv-loop : tie.InvT-loop
 Inv-loop node cert types f lines sums₀ i₀ sums i =
-    (i ≤ lines) × ((j : ℕ) → j < i → linePasses node cert j ≡ true) × (lines ≡ f .base + f .step) × (sums ≡ replicate 576 (pos 0))
+    (i ≤ lines) × ((j : ℕ) → j < i → linePasses version2 node cert j ≡ true) × (lines ≡ f .base + f .step) × (sums ≡ replicate 576 (pos 0))
 
 abbrev μ-loop : tie.MeasureT-loop
 μ-loop node cert types f lines sums₀ i₀ sums i = lines - i
@@ -50,7 +51,7 @@ returns c =
     let s = turn .before .before .before .before .before .before in
     let inv = turn .before .loop .inv in
     rw
-    (ap (λ (f : Frame). lowest (linePasses (now (s .args .node)) (now (s .args .cert))) (f .base + f .step)) (sym (s .pre .0 .frame))
+    (ap (λ (f : Frame). lowest (linePasses version2 (now (s .args .node)) (now (s .args .cert))) (f .base + f .step)) (sym (s .pre .0 .frame))
     ∙ found _ _ (turn .before .loop .i) (omega (arith, inv .2, turn .loop-test .taken)) (inv .1) (ne-eqb _ _ (λ e. c .if1 .taken (tested .line-fault .ensures .0 ∙ e))))
     (ap (λ (k : ℕ). refused k (AtLine (turn .before .loop .i))) (tested .line-fault .ensures .0))
 
@@ -81,7 +82,7 @@ returns-2 c =
     let at = c .before .before in
     let s = at .before .before .before .before .before in
     rw
-    (ap (λ (f : Frame). lowest (linePasses (now (s .args .node)) (now (s .args .cert))) (f .base + f .step)) (sym (s .pre .0 .frame))
+    (ap (λ (f : Frame). lowest (linePasses version2 (now (s .args .node)) (now (s .args .cert))) (f .base + f .step)) (sym (s .pre .0 .frame))
     ∙ none _ _ (λ j l. at .loop .inv .1 j (omega (arith, at .loop .inv .2, c .before .loop-test .left))))
     (c .parts-verdict .ensures (now (s .args .node)))
 

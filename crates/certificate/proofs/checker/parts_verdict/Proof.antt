@@ -9,6 +9,7 @@ use Rattle.answers.specs.Answer.{accepted}
 use Rattle.constraints.specs.Layout.{lineOf}
 use Rattle.rules.specs.Lines.{hasEmpty}
 use Rattle.rules.specs.Verdict.{baseOf, stepOf, partsVerdict}
+use Rattle.rules.specs.Versions.{version2}
 use Rattle.certificate.specs.declared.frame.Frame.{Frame}
 use Rattle.certificate.proofs.PartFacts.{empty-base, empty-step}
 use borrow.Author.Needs.{needs}
@@ -16,7 +17,7 @@ use Rattle.certificate.proofs.checker.parts_verdict.Statement.{statemen
 use Rattle.certificate.proofs.checker.parts_verdict.Tie as tie
 
 -- the searches for an empty line are the definition's
-base-is : (c : tie.After-has-empty) (node : List ℕ) → let s = now (c .before .before .args .cert) in hasEmpty (lineOf s) (baseOf node s) ≡ c .has-empty .result
+base-is : (c : tie.After-has-empty) (node : List ℕ) → let s = now (c .before .before .args .cert) in hasEmpty (lineOf s) (baseOf version2 node s) ≡ c .has-empty .result
 base-is c node = sym (c .has-empty .ensures ∙ empty-base (now (c .before .before .args .cert)) _ (c .before .before .pre .0) node)
 
 step-is : (c : tie.After-has-empty2) (node : List ℕ) → let s = now (c .before .before .before .before .args .cert) in hasEmpty (lineOf s) (stepOf node s) ≡ c .has-empty2 .result

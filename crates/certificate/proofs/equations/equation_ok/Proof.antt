@@ -18,6 +18,7 @@ use Rattle.rules.specs.declared.pattern.Named.{Named}
 use Rattle.rules.specs.declared.pattern.Position.{Position}
 use Rattle.rules.specs.Clauses.{clauses, numbered}
 use Rattle.rules.specs.Lines.{positionOf, literalsAre, equationIn}
+use Rattle.rules.specs.Versions.{version2}
 use Rattle.rules.proofs.ClauseLiterals.{Each}
 use Rattle.clauses.specs.Limits.{SmallPattern}
 use Rattle.clauses.proofs.Limits.{small-clauses, small-named}
@@ -41,7 +42,7 @@ q-below c = ltb-true _ _ (passed c .1)
 -- the clause that a line's head names
 abbrev named : List ℕ → Position → LineHead → Named
 named node opening h =
-    numbered (clauses (typeAt node (h .p)) (equationAt node (h .p)) (positionOf opening (h .q)) (variable (h .q)) (variable (h .q - 1)) (variable (h .q) (h .p))) (h .r)
+    numbered (clauses version2 (typeAt node (h .p)) (equationAt node (h .p)) (positionOf opening (h .q)) (variable (h .q)) (variable (h .q - 1)) (variable (h .q) (h .p))) (h .r)
 
 named-is : (c : tie.After-clause-of) → let a = c .before .before .before .before .before .before .before .before .before .before .args in c .clause-of .result ≡ named (now (a .node)) (a .opening) (c .before .before .before .before .before .before .before .line-head .result)
 named-is c =
@@ -60,7 +61,7 @@ small c =
     let h = c .before .before .before .before .before .before .before .before .before .line-head .result in
     let node = now (s .args .node) in
     small-named
-    (clauses (typeAt node (h .p)) (equationAt node (h .p)) (positionOf (s .args .opening) (h .q)) (variable (h .q)) (variable (h .q - 1)) (variable (h .q) (h .p)))
+    (clauses version2 (typeAt node (h .p)) (equationAt node (h .p)) (positionOf (s .args .opening) (h .q)) (variable (h .q)) (variable (h .q - 1)) (variable (h .q) (h .p)))
     (h .r) (c .c .given .0 .0)
     (small-clauses (variable (h .q)) (variable (h .q - 1)) (variable (h .q) (h .p)) (typeAt node (h .p)) (equationAt node (h .p))
     (positionOf (s .args .opening) (h .q)) (s .pre .1 .0 (h .p) (p-below (c .before .before .before .before .before .before))))

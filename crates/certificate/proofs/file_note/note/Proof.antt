@@ -4,6 +4,7 @@ use mathlib.Core.Path.{sym}
 use lib.Seq.{length-take-le}
 use Rattle.rules.proofs.FileFacts.{note-fits}
 use borrow.Author.Needs.{needs}
+use Rattle.rules.specs.Versions.{version2}
 use Rattle.certificate.proofs.file_note.note.Statement.{statement}
 use Rattle.certificate.proofs.file_note.note.Tie as tie
 
@@ -11,7 +12,7 @@ note-length-requires : tie.Need-note-length-requires
 note-length-requires c κs = search needs
 
 slice-aggregate-result : tie.Need-slice-aggregate-result
-slice-aggregate-result c = sym (length-take-le _ _ (rw (c .before .note-length .ensures) (note-fits _)))
+slice-aggregate-result c = sym (length-take-le _ _ (rw (c .before .note-length .ensures) (note-fits version2 _)))
 
 returns : tie.Need-returns
 returns c = rw (c .before .note-length .ensures)

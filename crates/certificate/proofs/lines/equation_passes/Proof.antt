@@ -7,16 +7,16 @@ use borrow.Author.Needs.{needs}
 use Rattle.certificate.proofs.lines.equation_passes.Statement.{statement}
 use Rattle.certificate.proofs.lines.equation_passes.Tie as tie
 
-cast-depth : tie.Need-cast-depth
-cast-depth c = search needs
+cast-offsets : tie.Need-cast-offsets
+cast-offsets c = search needs
+
+add-offsets : tie.Need-add-offsets
+add-offsets c = search needs
 
 equation-ok-requires : tie.Need-equation-ok-requires
 equation-ok-requires c κs =
     let s = c .before .before .before .before .before in
     ((readable _ _ _ (s .pre .0), s .pre .1), node-read _ _ _ (s .pre .0) _ (omega arith))
-
-add-equation-ok : tie.Need-add-equation-ok
-add-equation-ok c = search needs
 
 equation-ok-requires-2 : tie.Need-equation-ok-requires-2
 equation-ok-requires-2 c κs =
@@ -32,4 +32,4 @@ returns-2 c = rw (le-ltb _ _ (c .before .if1 .left)) (c .equation-ok2 .ensures)
 pub equation-passes-spec : {M : Type 1} → statement M
 equation-passes-spec =
     tie.close
-    (tie.spec cast-depth equation-ok-requires add-equation-ok equation-ok-requires-2 returns returns-2)
+    (tie.spec cast-offsets add-offsets equation-ok-requires equation-ok-requires-2 returns returns-2)

@@ -8,6 +8,7 @@ use borrow.Author.Count.{below-more}
 use borrow.Author.Tests.{not-true, not-false}
 use denote.Ref.{now}
 use Rattle.rules.specs.Verdict.{shapePasses, lineFault}
+use Rattle.rules.specs.Versions.{version2}
 use Rattle.rules.proofs.LineFaults.{line-kept}
 use Rattle.certificate.proofs.LineFacts.{shape-is, lines-ready}
 use borrow.Author.Needs.{needs}
@@ -37,7 +38,7 @@ shapes : (c : tie.Else1) → let a = c .before .before .before .before .before .
 shapes c =
     let s = c .before .before .before .before .before .before .before in
     below-more (λ (j : ℕ). shapePasses (now (s .args .node)) (now (s .args .cert)) j ≡ true) (s .args .i)
-    (λ j l. line-kept (now (s .args .node)) (now (s .args .cert)) j (s .pre .1 .0 .1 j l) .0)
+    (λ j l. line-kept version2 (now (s .args .node)) (now (s .args .cert)) j (s .pre .1 .0 .1 j l) .0)
     (shape-true c)
 
 returns : tie.Need-returns

@@ -16,10 +16,10 @@ use Rattle.certificate.proofs.property.are_not_property.Statement.{stat
 use Rattle.certificate.proofs.property.are_not_property.Tie as tie
 
 abbrev Inv-loop : tie.InvT-loop
-Inv-loop file at k prop j₀ j = (j ≤ k) × (every (notPropertyAt prop (literalAt file at)) j ≡ true)
+Inv-loop file at n prop j₀ j = (j ≤ n) × (every (notPropertyAt prop (literalAt file at)) j ≡ true)
 
 abbrev μ-loop : tie.MeasureT-loop
-μ-loop file at k prop j₀ j = k - j
+μ-loop file at n prop j₀ j = n - j
 
 loop-holds : tie.Need-loop-holds Inv-loop μ-loop
 loop-holds c = (search needs, every-none _)
@@ -62,7 +62,7 @@ loop-again c =
 
 returns-2 : tie.Need-returns-2 Inv-loop μ-loop
 returns-2 c =
-    let j-is : c .before .loop .j ≡ c .before .before .before .args .k = omega arith in
+    let j-is : c .before .loop .j ≡ c .before .before .before .args .n = omega arith in
     sym (rw j-is at (c .before .loop .inv .1))
 
 pub are-not-property-spec : {M : Type 1} → statement M

@@ -7,6 +7,7 @@ use Rattle.answers.specs.Answer.{accepted, refused}
 use Rattle.constraints.specs.Layout.{trailerOf}
 use Rattle.constraints.specs.Rules.{typesOf}
 use Rattle.rules.specs.Verdict.{typesOfNode, fileVerdict}
+use Rattle.rules.specs.Versions.{version2}
 use Rattle.certificate.specs.declared.reading.Opened.the-variants.{Passed}
 use Rattle.certificate.specs.Checking.{openingOf}
 use Rattle.certificate.proofs.Openings.{counted-streams, node-types, unopened, file-accepted, frame-room, checking}
@@ -33,7 +34,7 @@ slice-aggregate-lines-verdict : tie.Need-slice-aggregate-lines-verdict
 slice-aggregate-lines-verdict c = search needs
 
 -- the opening has passed
-passed : (c : tie.After-t) → let a = c .before .before .before .before .before .before .before .args in Passed (c .t .given .0 .0) ≡ openingOf (trailerOf (now (a .cert))) (fileVerdict (now (a .node)) (now (a .cert)))
+passed : (c : tie.After-t) → let a = c .before .before .before .before .before .before .before .args in Passed (c .t .given .0 .0) ≡ openingOf (trailerOf (now (a .cert))) (fileVerdict version2 (now (a .node)) (now (a .cert)))
 passed c = sym (c .t .given .1) ∙ c .before .before .opening .ensures
 
 frame-of-requires : tie.Need-frame-of-requires
@@ -47,10 +48,10 @@ lines-verdict-requires c κs =
     let read = told .before .before .before .before in
     (checking _ _ _ _ _ (read .before .before .before .pre) (passed told) _ (c .frame-of .ensures), are-types read)
 
-file-is : (c : tie.After-t) → let a = c .before .before .before .before .before .before .before .args in fileVerdict (now (a .node)) (now (a .cert)) ≡ accepted tt
+file-is : (c : tie.After-t) → let a = c .before .before .before .before .before .before .before .args in fileVerdict version2 (now (a .node)) (now (a .cert)) ≡ accepted tt
 file-is c = file-accepted _ _ _ _ _ (c .before .before .before .before .before .before .before .pre) (passed c)
 
-refused-is : (c : tie.After-number) → let a = c .before .before .before .before .before .before .before .args in fileVerdict (now (a .node)) (now (a .cert)) ≡ refused (c .number .given .0 .0) (c .number .given .0 .1 .0)
+refused-is : (c : tie.After-number) → let a = c .before .before .before .before .before .before .before .args in fileVerdict version2 (now (a .node)) (now (a .cert)) ≡ refused (c .number .given .0 .0) (c .number .given .0 .1 .0)
 refused-is c = unopened _ _ _ _ (sym (c .number .given .1) ∙ c .before .before .opening .ensures)
 
 enum-known-number : tie.Need-enum-known-number

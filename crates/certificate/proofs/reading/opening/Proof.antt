@@ -12,6 +12,7 @@ use Rattle.constraints.specs.declared.layout.Trailer.{Trailer}
 use Rattle.constraints.specs.Layout.{trailerOf}
 use Rattle.constraints.specs.Rules.{fixedOk, countsOk, distanceOk}
 use Rattle.rules.specs.Verdict.{fileVerdict}
+use Rattle.rules.specs.Versions.{version2}
 use Rattle.rules.proofs.FileFacts.{file-passed}
 use borrow.Author.Needs.{needs}
 use Rattle.certificate.proofs.reading.opening.Statement.{statement}
@@ -20,8 +21,8 @@ use Rattle.certificate.proofs.reading.opening.Tie as tie
 length-is : (c : tie.After-length-ok) → lengthOk (length (now (c .before .before .before .before .args .cert))) ≡ c .length-ok .result
 length-is c = sym (c .length-ok .ensures)
 
-fixed-is : (c : tie.After-fixed-ok) → fixedOk (trailerOf (now (c .before .before .before .before .before .before .before .args .cert))) ≡ c .fixed-ok .result
-fixed-is c = ap fixedOk (sym (c .before .trailer-of .ensures)) ∙ sym (c .fixed-ok .ensures)
+fixed-is : (c : tie.After-fixed-ok) → fixedOk 2 (trailerOf (now (c .before .before .before .before .before .before .before .args .cert))) ≡ c .fixed-ok .result
+fixed-is c = ap (fixedOk 2) (sym (c .before .trailer-of .ensures)) ∙ sym (c .fixed-ok .ensures)
 
 counts-is : (c : tie.After-counts-ok) → countsOk (trailerOf (now (c .before .before .before .before .before .before .before .before .before .args .cert))) ≡ c .counts-ok .result
 counts-is c = ap countsOk (sym (c .before .before .before .trailer-of .ensures)) ∙ sym (c .counts-ok .ensures)
@@ -83,7 +84,7 @@ constraints-opening-requires c κs =
       record {
         trailer = read .trailer-of .ensures;
         file =
-            file-passed _ (length-passes (read .before)) (fixed-is (two .before) ∙ not-false _ (two .if2 .left))
+            file-passed version2 _ (length-passes (read .before)) (fixed-is (two .before) ∙ not-false _ (two .if2 .left))
             (counts-is (three .before) ∙ not-false _ (three .if3 .left)) (distance-is (c .before) ∙ not-false _ (c .if4 .left));
       },
       read .before .before .before .before .before .before .pre,

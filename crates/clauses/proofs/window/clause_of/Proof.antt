@@ -1,6 +1,7 @@
 -- `clauses::clause_of` meets its contract: in each arm the operator's clauses, of the operands' variables.
 -- Assumes nothing.
 use mathlib.Core.Path.{_∙_, refl}
+use mathlib.Core.Bool.{true, false}
 use Prim.Native.Nat.{_-_}
 use lib.IntN.{ℤ, pos, negℤ}
 use mir.Syntax.{w32}
@@ -288,7 +289,7 @@ returns-13 c =
     rw (c .before .before .before .before .e12 .given .1)
     (c .later .ensures
     ∙ same-number (s .r)
-    (same3 (firstThen (s .ty) (s .place)) (c .before .before .before .before .before .before .var .ensures) (c .before .before .var21 .ensures) (c .before .var22 .ensures)))
+    (same3 (firstThen (s .ty) (s .place) true) (c .before .before .before .before .before .before .var .ensures) (c .before .before .var21 .ensures) (c .before .var22 .ensures)))
 
 returns-14 : tie.Need-returns-14
 returns-14 c =
@@ -296,7 +297,7 @@ returns-14 c =
     rw (c .before .before .before .before .e13 .given .1)
     (c .later2 .ensures
     ∙ same-number (s .r)
-    (same3 (firstThen (s .ty) (s .place)) (c .before .before .before .before .before .before .var .ensures) (c .before .before .var23 .ensures) (c .before .back .ensures)))
+    (same3 (firstThen (s .ty) (s .place) false) (c .before .before .before .before .before .before .var .ensures) (c .before .before .var23 .ensures) (c .before .back .ensures)))
 
 returns-15 : tie.Need-returns-15
 returns-15 c =
