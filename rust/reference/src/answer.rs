@@ -80,8 +80,8 @@ pub struct Accepted {
 }
 
 impl fmt::Display for Accepted {
-    /// 01: "prints verdict, depth and the trailer's line counts: `accepted
-    /// depth 1 base 12 step 12`".
+    /// 01: "prints verdict, depth and the trailer's line counts", as in
+    /// `accepted depth 1 base 23 step 12`.
     fn fmt(&self, f: &mut fmt::Formatter<'_>) -> fmt::Result {
         let Accepted { depth, base, step } = self;
         write!(f, "accepted depth {depth} base {base} step {step}")

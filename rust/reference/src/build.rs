@@ -15,6 +15,8 @@ pub mod random;
 pub mod renumber;
 pub mod search;
 
+/// The version byte of a right certificate.
+pub const VERSION: u8 = 2;
 /// The type byte of a bool stream.
 pub const BOOL: u8 = 0;
 /// The type byte of an int stream.
@@ -384,12 +386,17 @@ pub struct CertificateFile {
 impl CertificateFile {
     /// The file's bytes.
     pub fn bytes(&self) -> Vec<u8> {
+        self.bytes_of_version(VERSION)
+    }
+
+    /// The file's bytes with this version byte, right or wrong.
+    pub fn bytes_of_version(&self, version: u8) -> Vec<u8> {
         let counts = [self.constraints.len(), self.base.len(), self.step.len()];
         let mut bytes = self.note.clone();
         bytes.extend(self.constraints.iter().flat_map(Constraint::bytes));
         bytes.extend(self.base.iter().flat_map(Line::bytes));
         bytes.extend(self.step.iter().flat_map(Line::bytes));
-        bytes.extend([0x4B, 0x43, 1, self.depth]);
+        bytes.extend([0x4B, 0x43, version, self.depth]);
         bytes.extend(counts.into_iter().flat_map(count));
         bytes.extend([0; 2]);
         bytes.extend(distance(80, counts.into_iter().sum()));

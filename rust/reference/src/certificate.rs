@@ -24,7 +24,8 @@ pub const MAX_DEPTH: u8 = 8;
 pub enum Part {
     /// From instant 0: offsets are instants.
     Base,
-    /// From any instant: offset 0 is no known instant.
+    /// From any instant after the first: 02's "window that never starts at
+    /// instant 0".
     Step,
 }
 

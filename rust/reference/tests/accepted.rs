@@ -4,11 +4,13 @@ mod common;
 #[path = "common/examples.rs"]
 mod examples;
 
-use common::{accepted, two_bands};
+use common::{accepted, refused_bytes, two_bands};
 use examples::{
-    brought_inside, certified, counter, first_only, five_then_nothing, int_ring, never,
-    nothing_doubled, one_more, one_more_certificate, ring, ten_at_most, ten_is_the_lesser, twins,
+    brought_inside, certified, counter, first_only, five_then_nothing, int_ring, late_five,
+    late_five_certificate, never, nothing_doubled, one_more, one_more_certificate, ring,
+    ten_at_most, ten_is_the_lesser, twins,
 };
+use reference::answer::Place;
 use reference::build::search::certificate;
 use reference::build::{orders, CertificateFile, NodeFile, Record};
 use reference::certificate::check;
@@ -25,13 +27,25 @@ fn written_by_hand() {
     accepted(&node, &certificate);
     accepted(&one_more(), &one_more_certificate());
     let verdict = check(&one_more().bytes(), &one_more_certificate().bytes()).unwrap();
-    assert_eq!(verdict.to_string(), "accepted depth 1 base 9 step 9");
+    assert_eq!(verdict.to_string(), "accepted depth 1 base 17 step 9");
+    let verdict = check(&late_five().bytes(), &late_five_certificate().bytes()).unwrap();
+    assert_eq!(verdict.to_string(), "accepted depth 1 base 23 step 13");
 }
 
 #[test]
 fn every_example() {
     for (node, certificate) in certified() {
         accepted(&node, &certificate);
+    }
+}
+
+/// 02: "Version 1 files are now refused with 12."
+#[test]
+fn none_of_them_is_of_version_1() {
+    for (node, certificate) in certified() {
+        assert_eq!(certificate.bytes_of_version(2), certificate.bytes());
+        let old = certificate.bytes_of_version(1);
+        refused_bytes(&node.bytes(), &old, 12, Place::File);
     }
 }
 
@@ -54,6 +68,7 @@ fn operator_12() {
     for depth in [1, 2, 8] {
         accepted(&first_only(), &found(&first_only(), depth));
         accepted(&five_then_nothing(), &found(&five_then_nothing(), depth));
+        accepted(&late_five(), &found(&late_five(), depth));
     }
 }
 

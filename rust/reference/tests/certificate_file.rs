@@ -8,6 +8,7 @@ use common::{
 };
 use reference::answer::Place;
 use reference::answer::Place::File;
+use reference::build::proof::two_bands_part;
 use reference::build::{CertificateFile, Constraint, NodeFile, Record, Term, BOOL, INT};
 use reference::certificate;
 
@@ -22,11 +23,11 @@ fn trailer_refused(back: usize, bytes: &[u8], number: u8) {
 #[test]
 fn the_worked_example_is_accepted() {
     let (node, certificate) = two_bands();
-    assert_eq!(certificate.base.len(), 12);
+    assert_eq!(certificate.base.len(), 23);
     assert_eq!(certificate.step.len(), 12);
     accepted(&node, &certificate);
     let verdict = certificate::check(&node.bytes(), &certificate.bytes()).unwrap();
-    assert_eq!(verdict.to_string(), "accepted depth 1 base 12 step 12");
+    assert_eq!(verdict.to_string(), "accepted depth 1 base 23 step 12");
 }
 
 #[test]
@@ -54,11 +55,44 @@ fn refusal_11_length() {
 
 #[test]
 fn refusal_12_fixed_bytes() {
-    for (back, byte) in [(16, 0x4C), (15, 0x4B), (14, 0), (14, 2), (6, 1), (5, 1)] {
+    for (back, byte) in [(16, 0x4C), (15, 0x4B), (6, 1), (5, 1)] {
         trailer_refused(back, &[byte], 12);
     }
-    // 12 comes before 13 and 14.
-    trailer_refused(14, &[3, 9, 0, 0, 0, 0, 0, 0, 0, 0, 0, 0, 0, 0], 12);
+    for version in [0, 1, 3, 255] {
+        trailer_refused(14, &[version], 12);
+        // 12 comes before 13 and 14.
+        trailer_refused(14, &[version, 9, 0, 0, 0, 0, 0, 0, 0, 0, 0, 0, 0, 0], 12);
+    }
+}
+
+/// 02: "Certificate version becomes 2"; of another there is no note.
+#[test]
+fn refusal_12_every_version_but_2() {
+    let (node, mut certificate) = two_bands();
+    certificate.note = b"proved".to_vec();
+    accepted(&node, &certificate);
+    assert_eq!(certificate::note(&certificate.bytes()), b"proved");
+    for version in (0..=255).filter(|version| *version != 2) {
+        let file = certificate.bytes_of_version(version);
+        refused_bytes(&node.bytes(), &file, 12, File);
+        assert_eq!(certificate::note(&file), b"");
+    }
+}
+
+/// The certificate that version 1 had for the two bands, whose base covers
+/// offset 0 alone: under its own version byte or the new one.
+#[test]
+fn the_certificate_of_version_1() {
+    let (node, _) = two_bands();
+    let old = CertificateFile {
+        depth: 1,
+        base: two_bands_part(0, 0..=0),
+        step: two_bands_part(12, 1..=1),
+        ..CertificateFile::default()
+    };
+    assert_eq!([old.base.len(), old.step.len()], [12, 12]);
+    refused_bytes(&node.bytes(), &old.bytes_of_version(1), 12, File);
+    refused(&node, &old, 18, Place::Line(0));
 }
 
 #[test]
@@ -106,17 +140,18 @@ fn refusal_14_distance() {
     for distance in [
         0u32,
         16,
-        1935,
-        1937,
-        16 + 80 * 23,
-        16 + 80 * 25,
-        0x0001_0790,
+        2815,
+        2817,
+        16 + 80 * 34,
+        16 + 80 * 36,
+        0x0001_0B00,
         u32::MAX,
     ] {
         trailer_refused(4, &distance.to_le_bytes(), 14);
     }
     let (node, certificate) = two_bands();
     let (node, file) = (node.bytes(), certificate.bytes());
+    assert_eq!(file.len(), 2816);
     refused_bytes(&node, &file[1..], 14, File);
     refused_bytes(&node, &file[80..], 14, File);
     // Counts that reach over the file's start, the distance right for them.
@@ -130,8 +165,8 @@ fn refusal_14_distance() {
         File,
     );
     // A base line more and a step line fewer is no matter of the distance.
-    let moved = patched_back(&file, 10, &[13, 0, 11, 0]);
-    refused_bytes(&node, &moved, 18, Place::Line(12));
+    let moved = patched_back(&file, 10, &[24, 0, 11, 0]);
+    refused_bytes(&node, &moved, 18, Place::Line(23));
 }
 
 #[test]
@@ -149,7 +184,7 @@ fn no_lines_at_all() {
 fn the_longest_certificate() {
     let (node, mut certificate) = two_bands();
     let more = certificate.step[0];
-    certificate.step.resize(818 - 12, more);
+    certificate.step.resize(818 - 23, more);
     let length = 16 + 80 * 818;
     assert_eq!(certificate.bytes().len(), length);
     accepted(&node, &certificate);
@@ -175,7 +210,7 @@ fn the_note_is_the_certificate_s_alone() {
         .push(Constraint::new(&[(0, 0, 1)], 0));
     refused(&node, &certificate, 15, Place::Constraint(0));
     assert_eq!(certificate::note(&certificate.bytes()), b"proved");
-    for (back, byte) in [(16, 0), (13, 0), (4, 1)] {
+    for (back, byte) in [(16, 0), (14, 1), (13, 0), (4, 1)] {
         assert!(certificate::note(&patched_back(&file, back, &[byte])).is_empty());
     }
     assert!(certificate::note(&file[file.len() - 15..]).is_empty());

@@ -68,7 +68,7 @@ fn right_lines_pass() {
         assert_eq!(base(line), Ok(()));
         assert_eq!(step(line), Ok(()));
     }
-    assert_eq!(base(Line::property(0, &[7, 135])), Ok(()));
+    assert_eq!(base(Line::property(0, &[7, 135, 263])), Ok(()));
     assert_eq!(step(Line::property(0, &[6])), Ok(()));
     assert_eq!(step(Line::property(1, &[134])), Ok(()));
     assert_eq!(step(Line::property(2, &[263])), Ok(()));
@@ -240,11 +240,61 @@ fn offset_k_and_k_plus_1_at_each_depth() {
         assert_eq!(trial(&node(), &certificate, Step, line(k)), Ok(()));
         assert_eq!(trial(&node(), &certificate, Step, line(k + 1)), Err(16));
         let equation = |q| Line::equation(3, q, 0, &[lit(3, q)]);
-        assert_eq!(trial(&node(), &certificate, Step, equation(k)), Ok(()));
-        assert_eq!(trial(&node(), &certificate, Base, equation(k - 1)), Ok(()));
-        assert_eq!(trial(&node(), &certificate, Base, equation(k)), Err(17));
         let outside = Line::equation(3, k + 1, 0, &[lit(3, k)]);
-        assert_eq!(trial(&node(), &certificate, Step, outside), Err(17));
+        for part in [Base, Step] {
+            for q in 0..=k {
+                assert_eq!(trial(&node(), &certificate, part, equation(q)), Ok(()));
+            }
+            assert_eq!(trial(&node(), &certificate, part, equation(k + 1)), Err(16));
+            assert_eq!(trial(&node(), &certificate, part, outside), Err(17));
+        }
+    }
+}
+
+/// Past depth 8 a stream's atom would be a constraint's, so that 16 does not
+/// stand before 17 and 18.
+#[test]
+fn offset_9_is_past_k_though_its_literals_name_atoms() {
+    let mut certificate = constant_certificate(3, 8);
+    certificate.constraints = vec![Constraint::new(&[], 0); 4];
+    assert_eq!(lit(3, 9), on(3));
+    let equation = Line::equation(3, 9, 0, &[on(3)]);
+    let fails: Vec<u16> = (0..=9).map(|q| opp(lit(3, q))).collect();
+    for part in [Base, Step] {
+        let answer = |line| trial(&node(), &certificate, part, line);
+        assert_eq!(answer(equation), Err(17));
+        assert_eq!(answer(Line::property(9, &[on(3)])), Err(18));
+        assert_eq!(answer(Line::property(9, &[opp(on(3))])), Err(18));
+        assert_eq!(answer(Line::property(0, &fails)), Err(18));
+    }
+}
+
+/// 02: "the base covers instants 0 to k, its property line too".
+#[test]
+fn the_base_s_property_line_at_each_depth() {
+    for depth in 1..=8 {
+        let certificate = constant_certificate(3, depth);
+        let k = u16::from(depth);
+        let answer = |q, literals: &[u16]| {
+            let line = Line::property(q, literals);
+            trial(&node(), &certificate, Base, line)
+        };
+        let fails: Vec<u16> = (0..=k).map(|q| opp(lit(3, q))).collect();
+        let (most, last) = (&fails[..depth.into()], opp(lit(3, k)));
+        assert_eq!(answer(0, &fails), Ok(()));
+        assert_eq!(answer(k, &fails), Err(18));
+        assert_eq!(answer(k + 1, &fails), Err(18));
+        // k literals, at either end; k + 2, the last one twice or past k.
+        assert_eq!(answer(0, most), Err(18));
+        assert_eq!(answer(0, &fails[1..]), Err(18));
+        assert_eq!(answer(0, &[&fails[..], &[last]].concat()), Err(18));
+        let past = opp(lit(3, k + 1));
+        assert_eq!(answer(0, &[&fails[..], &[past]].concat()), Err(16));
+        // k + 1 of them, but another stream's, or the opposite at the end.
+        assert_eq!(answer(0, &[most, &[opp(lit(0, k))]].concat()), Err(18));
+        assert_eq!(answer(0, &[most, &[lit(3, k)]].concat()), Err(18));
+        let falling: Vec<u16> = fails.iter().rev().copied().collect();
+        assert_eq!(answer(0, &falling), Err(18));
     }
 }
 
@@ -288,24 +338,31 @@ fn refusal_17_no_such_clause() {
 
 #[test]
 fn refusal_18_property() {
-    // Base, depth 2: exactly {!3 at 0, !3 at 1}, q = 0.
+    // Base, depth 2: exactly {!3 at 0, !3 at 1, !3 at 2}, q = 0.
     for literals in [
         &[7][..],
-        &[135],
-        &[135, 7],
-        &[6, 134],
-        &[7, 134],
-        &[7, 135, 263],
+        &[263],
+        &[7, 135],
+        &[135, 263],
+        &[263, 135, 7],
+        &[7, 263, 135],
+        &[135, 7, 263],
+        &[6, 134, 262],
+        &[6, 135, 263],
+        &[7, 134, 263],
+        &[7, 135, 262],
         &[7, 135, 135],
+        &[7, 7, 135],
+        &[7, 135, 263, 263],
         &[],
     ] {
         assert_eq!(base(Line::property(0, literals)), Err(18));
     }
     for q in [1, 2, 3, 256, 65_535] {
-        assert_eq!(base(Line::property(q, &[7, 135])), Err(18));
+        assert_eq!(base(Line::property(q, &[7, 135, 263])), Err(18));
     }
     // Step, depth 2: {3 at 0}, {3 at 1}, {!3 at 2}.
-    let cases: [(u16, &[u16]); 14] = [
+    let cases: [(u16, &[u16]); 15] = [
         (0, &[7]),
         (1, &[135]),
         (2, &[262]),
@@ -313,6 +370,7 @@ fn refusal_18_property() {
         (1, &[6]),
         (2, &[7]),
         (2, &[7, 135]),
+        (0, &[7, 135, 263]),
         (3, &[6]),
         (3, &[263]),
         (256, &[6]),
@@ -326,13 +384,12 @@ fn refusal_18_property() {
     }
 }
 
-/// 01's base with one line replaced.
+/// The two bands' certificate with one line replaced.
 fn two_bands_with(number: usize, line: Line) -> (NodeFile, CertificateFile) {
     let (node, mut certificate) = two_bands();
-    if number < 12 {
-        certificate.base[number] = line;
-    } else {
-        certificate.step[number - 12] = line;
+    match number.checked_sub(certificate.base.len()) {
+        Some(i) => certificate.step[i] = line,
+        None => certificate.base[number] = line,
     }
     (node, certificate)
 }
@@ -352,33 +409,41 @@ fn refusal_19_lines_not_lower_or_of_the_other_part() {
         (4, 3),
         (2, 4),
         (2, 5),
-        (12, 3),
-        (2, 13),
-        (24, 3),
+        (23, 3),
+        (2, 24),
+        (35, 3),
         (65_535, 65_535),
     ] {
         join_refused(4, Line { p, q, ..right });
     }
     let right = certificate.step[2];
-    assert_eq!((right.p, right.q, right.r), (13, 12, lit(5, 1)));
+    assert_eq!((right.p, right.q, right.r), (24, 23, lit(5, 1)));
     for (p, q) in [
-        (1, 12),
-        (13, 0),
+        (1, 23),
+        (24, 0),
         (1, 0),
-        (13, 11),
-        (14, 12),
-        (13, 15),
-        (2, 12),
+        (24, 22),
+        (25, 23),
+        (24, 26),
+        (2, 23),
     ] {
-        join_refused(14, Line { p, q, ..right });
+        join_refused(25, Line { p, q, ..right });
+    }
+    // The base has lines with the very same literals.
+    assert_eq!(certificate.base[12].clause(), certificate.step[1].clause());
+    assert_eq!(certificate.base[11].clause(), certificate.step[0].clause());
+    for (p, q) in [(12, 23), (24, 11), (12, 11)] {
+        join_refused(25, Line { p, q, ..right });
     }
 }
 
 #[test]
 fn refusal_19_literals() {
     let (_, certificate) = two_bands();
-    // Line 4 joins {4} and {!4, 0} to {0}.
+    // Line 4 joins {4, !5 at 1} and {!4, 0} to {!5 at 1, 0}.
     let right = certificate.base[4];
+    let not_5 = opp(lit(5, 1));
+    assert_eq!(right.clause(), [not_5, lit(0, 0)]);
     for r in [
         opp(lit(4, 0)),
         lit(0, 0),
@@ -389,7 +454,7 @@ fn refusal_19_literals() {
     ] {
         join_refused(4, Line { r, ..right });
     }
-    // {!4, 0} and {4}: the wrong way round for r = 4.
+    // The wrong way round for r = 4.
     join_refused(
         4,
         Line {
@@ -398,10 +463,17 @@ fn refusal_19_literals() {
             ..right
         },
     );
-    join_refused(4, Line::join(2, 3, lit(4, 0), &[]));
-    join_refused(4, Line::join(2, 3, lit(4, 0), &[lit(1, 0)]));
-    join_refused(4, Line::join(2, 3, lit(4, 0), &[lit(4, 0)]));
-    // {4} and {4}, and a line with itself.
+    for literals in [
+        &[][..],
+        &[not_5],
+        &[lit(0, 0)],
+        &[opp(not_5), lit(0, 0)],
+        &[not_5, lit(1, 0)],
+        &[not_5, lit(4, 0)],
+    ] {
+        join_refused(4, Line::join(2, 3, lit(4, 0), literals));
+    }
+    // A line with itself.
     join_refused(4, Line { q: 2, ..right });
     join_refused(4, Line { p: 3, ..right });
 }
@@ -417,6 +489,7 @@ fn refusal_19_r_stands_in_p_and_its_opposite_in_q() {
         lit(0, 0),
         lit(1, 0),
         opp(lit(1, 0)),
+        opp(lit(5, 1)),
     ];
     let answer = |p, q, r| trial(&node, &certificate, Base, Line::join(p, q, r, &all));
     assert_eq!(answer(2, 3, lit(4, 0)), Ok(()));
@@ -436,15 +509,14 @@ fn refusal_19_r_stands_in_p_and_its_opposite_in_q() {
 #[test]
 fn joins_may_hold_more_and_be_the_other_way_round() {
     let (node, certificate) = two_bands();
+    let (only, not_5) = (lit(0, 0), opp(lit(5, 1)));
+    let join = |literals: &[u16]| Line::join(2, 3, lit(4, 0), literals);
     let lines = [
-        Line::join(3, 2, opp(lit(4, 0)), &[lit(0, 0)]),
-        Line::join(2, 3, lit(4, 0), &[lit(1, 0), lit(0, 0), opp(lit(0, 0))]),
-        Line::join(
-            2,
-            3,
-            lit(4, 0),
-            &[lit(0, 0), lit(0, 0), lit(4, 0), opp(lit(4, 0))],
-        ),
+        Line::join(3, 2, opp(lit(4, 0)), &[only, not_5]),
+        join(&[not_5, only]),
+        join(&[only, not_5]),
+        join(&[lit(1, 0), only, opp(only), not_5]),
+        join(&[only, only, not_5, lit(4, 0), opp(lit(4, 0))]),
     ];
     for line in lines {
         assert_eq!(trial(&node, &certificate, Base, line), Ok(()));
@@ -454,17 +526,21 @@ fn joins_may_hold_more_and_be_the_other_way_round() {
 #[test]
 fn a_line_may_be_joined_with_itself() {
     let (node, certificate) = two_bands();
-    // The join at 12 is {1, !1}; with itself on 1 it keeps both.
-    let both = [lit(1, 0), opp(lit(1, 0))];
-    let first = Line::join(11, 11, lit(1, 0), &both);
-    assert_eq!(trial(&node, &certificate, Base, first), Err(19));
-    let first = Line::join(2, 3, lit(4, 0), &[lit(0, 0), lit(1, 0), opp(lit(1, 0))]);
-    let longer = with_base_lines(&certificate, &[first]);
+    let (one, not_5) = (lit(1, 0), opp(lit(5, 1)));
+    let empty = Line::join(22, 22, one, &[one, opp(one)]);
+    assert_eq!(trial(&node, &certificate, Base, empty), Err(19));
+    // The join at 23 also has 1 and !1; with itself on 1 it keeps both.
+    let both = [not_5, lit(0, 0), one, opp(one)];
+    let longer = with_base_lines(&certificate, &[Line::join(2, 3, lit(4, 0), &both)]);
     accepted(&node, &longer);
-    let line = Line::join(12, 12, lit(1, 0), &[lit(0, 0), lit(1, 0), opp(lit(1, 0))]);
-    assert_eq!(trial(&node, &longer, Base, line), Ok(()));
-    let line = Line::join(12, 12, lit(1, 0), &[lit(0, 0)]);
-    assert_eq!(trial(&node, &longer, Base, line), Err(19));
+    let itself = |literals: &[u16]| {
+        let line = Line::join(23, 23, one, literals);
+        trial(&node, &longer, Base, line)
+    };
+    assert_eq!(itself(&both), Ok(()));
+    for fewer in [&both[..2], &both[..3], &[not_5, lit(0, 0), opp(one)]] {
+        assert_eq!(itself(fewer), Err(19));
+    }
 }
 
 #[test]
@@ -549,8 +625,8 @@ fn refusal_21_parts() {
     let mut no_base = certificate.clone();
     no_base.base.clear();
     for line in no_base.step.iter_mut().filter(|line| line.kind == 3) {
-        line.p -= 12;
-        line.q -= 12;
+        line.p -= 23;
+        line.q -= 23;
     }
     refused(&node, &no_base, 21, Place::Base);
     let mut no_step = certificate.clone();
@@ -565,7 +641,7 @@ fn refusal_21_parts() {
     refused(&node, &unfinished, 21, Place::Step);
     // 21 comes after all lines, of the step too.
     neither.step.push(Line::default());
-    refused(&node, &neither, 16, Place::Line(11));
+    refused(&node, &neither, 16, Place::Line(22));
     no_step.base.pop();
     no_step.step.push(certificate.step[1]);
     refused(&node, &no_step, 21, Place::Base);
@@ -576,7 +652,7 @@ fn the_empty_line_may_stand_anywhere() {
     let (node, mut certificate) = two_bands();
     certificate.step.push(certificate.step[0]);
     accepted(&node, &certificate);
-    // {!5} more after a base that is done.
+    // A property line more after a base that is done.
     let more = with_base_lines(&certificate, &[certificate.base[0]]);
     accepted(&node, &more);
 }

@@ -118,9 +118,8 @@ fn damaged(line: &Line) -> Vec<Line> {
 
 /// The parts and offsets of depth 3, with the offset as both types.
 fn offsets() -> impl Iterator<Item = (Part, u16, u8)> {
-    let base = (0..3).map(|q| (Base, q));
-    let step = (0..4).map(|q| (Step, q));
-    base.chain(step).map(|(part, q)| (part, u16::from(q), q))
+    let parts = [Base, Step].into_iter();
+    parts.flat_map(|part| (0..=3).map(move |q| (part, u16::from(q), q)))
 }
 
 #[test]
@@ -289,11 +288,13 @@ fn arrows() {
         };
         let ints = |x| [vec![falling(x, (4, o), 0)], vec![rising(x, (4, o), 0)]];
         match (part, q) {
+            // 02: "operator 12 at step offset 0 takes b. Operator 13 still
+            // gives nothing there."
             (Step, 0) => {
-                for operator in [Record::arrow, Record::arrow_pre] {
-                    gives(operator(BOOL, 0, 2), part, q, &[]);
-                    gives(operator(INT, 1, 3), part, q, &[]);
-                }
+                gives(Record::arrow(BOOL, 0, 2), part, q, &bools(2, 0));
+                gives(Record::arrow(INT, 1, 3), part, q, &ints((3, 0)));
+                gives(Record::arrow_pre(BOOL, 0, 2), part, q, &[]);
+                gives(Record::arrow_pre(INT, 1, 3), part, q, &[]);
             }
             (Base, 0) => {
                 for operator in [Record::arrow, Record::arrow_pre] {
@@ -313,6 +314,59 @@ fn arrows() {
             }
         }
     }
+}
+
+/// Whether stream 4 has, at depth 3 and this part and offset, the two clauses
+/// in which t is this stream at this offset. It has both or neither.
+#[track_caller]
+fn takes(record: Record, part: Part, q: u8, (stream, offset): (u16, u8)) -> bool {
+    let mut certificate = constant_certificate(5, 3);
+    let clauses = if record.type_byte == BOOL {
+        let (s, t) = (lit(4, q.into()), lit(stream, offset.into()));
+        [vec![opp(s), t], vec![s, opp(t)]]
+    } else {
+        let mut terms = [(4, q, 1), (stream, offset, -1)];
+        terms.sort_unstable_by_key(|(stream, offset, _)| (*offset, *stream));
+        let at_most = Constraint::new(&terms, 0);
+        certificate.constraints = vec![at_most, at_most.times(-1)];
+        [vec![on(0)], vec![on(1)]]
+    };
+    let answers = [0, 1].map(|r| {
+        let line = Line::equation(4, q.into(), r, &clauses[usize::from(r)]);
+        trial(&node(record), &certificate, part, line)
+    });
+    assert!(answers == [Ok(()); 2] || answers == [Err(17); 2]);
+    answers == [Ok(()); 2]
+}
+
+/// The operand that operator 12 or 13 of a and b takes, and its offset.
+fn operand(operator: u8, part: Part, q: u8, a: u16, b: u16) -> Option<(u16, u8)> {
+    match (operator, part, q) {
+        (_, Base, 0) => Some((a, 0)),
+        (12, _, _) => Some((b, q)),
+        _ => q.checked_sub(1).map(|before| (b, before)),
+    }
+}
+
+#[test]
+fn arrows_take_one_operand_at_one_offset() {
+    let mut taken = 0;
+    for (part, _, q) in offsets() {
+        for (type_byte, streams) in [(BOOL, [0, 2, 6]), (INT, [1, 3, 7])] {
+            let [a, b, _] = streams;
+            for arrow in [Record::arrow, Record::arrow_pre] {
+                let record = arrow(type_byte, a, b);
+                let chosen = operand(record.operator, part, q, a, b);
+                for t in streams.iter().flat_map(|t| [0, 1, 2, 3].map(|o| (*t, o))) {
+                    assert_eq!(takes(record, part, q, t), chosen == Some(t));
+                }
+                taken += usize::from(chosen.is_some());
+            }
+        }
+    }
+    // Two parts, four offsets, two types, two operators, but for 13 at step
+    // offset 0.
+    assert_eq!(taken, 2 * 4 * 2 * 2 - 2);
 }
 
 /// 14: "{s ≤ a} {s ≤ b} {a ≤ s, b ≤ s}"; 15 is the mirror.
@@ -444,6 +498,25 @@ fn all_hold(file: &[u8], part: Part, p: u16, q: u8, rows: &[Vec<i64>]) -> bool {
         .all(|clause| clause.items().iter().any(|item| holds(item, rows)))
 }
 
+/// What the step says of operator 12 at offset 0 holds from instant 1 on, and
+/// not at instant 0, which the base covers.
+#[test]
+fn the_step_begins_after_instant_0() {
+    let file = node(Record::arrow(BOOL, 0, 2)).bytes();
+    let inputs = [1, 0, 0, 0, 0, 0];
+    let mut session = Session::new();
+    begin(&mut session, &file).unwrap();
+    let rows = [0, 1].map(|_| {
+        let mut values = vec![0; 8];
+        instant(&mut session, &inputs, &mut values).unwrap();
+        values
+    });
+    assert_eq!(rows.each_ref().map(|row| row[4]), [1, 0]);
+    let at = |part, start: usize| all_hold(&file, part, 4, 0, &rows[start..]);
+    assert_eq!([at(Base, 0), at(Base, 1)], [true, false]);
+    assert_eq!([at(Step, 0), at(Step, 1)], [false, true]);
+}
+
 #[test]
 fn the_solution_satisfies_every_clause_and_no_other_value_does() {
     let mut random = Random::new(20);
@@ -452,7 +525,7 @@ fn the_solution_satisfies_every_clause_and_no_other_value_does() {
         let file = random::node(&mut random, size).bytes();
         let node = node::read(&file).unwrap();
         let rows = run(&mut random, &file, 5);
-        for (q, start) in (0..rows.len()).flat_map(|q| [(q, 0), (q, 1)]) {
+        for (q, start) in (0..rows.len()).flat_map(|q| [(q, 0), (q, 1), (q, 2)]) {
             let Some(row) = rows.get(start..).filter(|rows| q < rows.len()) else {
                 continue;
             };

@@ -5,6 +5,7 @@
 mod folders;
 
 use folders::{all, named, top, Folder};
+use reference::answer::Refusal;
 use reference::build::random::Random;
 use reference::build::{search, BOOL, INT};
 use reference::certificate::check;
@@ -105,6 +106,19 @@ fn only_the_forged_are_refused() {
     let names: Vec<&str> = folders.iter().filter(refused).map(Folder::name).collect();
     assert_eq!(names, FORGED);
     assert_eq!(folders.len(), 16);
+}
+
+/// 02: "Version 1 files are now refused with 12."
+#[test]
+fn none_is_of_version_1() {
+    let accepted = |folder: &Folder| !FORGED.contains(&folder.name());
+    for folder in all().into_iter().filter(accepted) {
+        let mut old = folder.certificate.clone();
+        let version = old.len() - 14;
+        old[version] = 1;
+        let verdict = check(&folder.node, &old);
+        assert_eq!(verdict, Err(Refusal::file(12)), "{}", folder.name());
+    }
 }
 
 /// Inputs for one instant.

@@ -1,12 +1,12 @@
 //! 01's four false turns, and those that 02's lines invite, each in a
 //! certificate for a property that fails, and the wrong checkers that 01
-//! tells to try.
+//! tells to try. Those of 02's step window are in `step_window.rs`.
 
 mod common;
 #[path = "common/examples.rs"]
 mod examples;
 
-use common::{accepted, refused, trial, two_bands};
+use common::{accepted, property_values, refused, trial, two_bands, with_base_lines};
 use reference::answer::Place::{self, Line as AtLine};
 use reference::build::proof::Proof;
 use reference::build::{
@@ -15,18 +15,7 @@ use reference::build::{
 use reference::build::{multiples, search};
 use reference::certificate::Part::{Base, Step};
 use reference::session::{begin, instant, Record as Session};
-
-/// The property's values on a node without inputs.
-fn property_values(node: &NodeFile, instants: usize) -> Vec<i64> {
-    let mut session = Session::new();
-    begin(&mut session, &node.bytes()).unwrap();
-    let mut values = vec![0; node.records.len()];
-    let mut run = || {
-        instant(&mut session, &[], &mut values).unwrap();
-        values[usize::from(node.property)]
-    };
-    (0..instants).map(|_| run()).collect()
-}
+use std::ops::RangeInclusive;
 
 /// "treating step offset 0 as instant 0": 2 is true -> false, 3 is true ->
 /// pre 2 and the property, which fails at instant 2.
@@ -42,27 +31,35 @@ fn step_offset_0_is_not_instant_0() {
         let node = NodeFile::new(records, 3);
         assert_eq!(property_values(&node, 3), [1, 1, 0]);
         let mut base = Proof::new(0);
-        let fails = base.property(0, &[opp(lit(3, 0))]);
+        let fails = base.fails(3, 0..=1);
         let starts = base.equation(3, 0, 1, &[lit(3, 0), opp(lit(0, 0))]);
         let truth = base.equation(0, 0, 0, &[lit(0, 0)]);
         let joined = base.join(starts, fails, lit(3, 0));
-        base.join(truth, joined, lit(0, 0));
+        let fails = base.join(truth, joined, lit(0, 0));
+        at_instant_1(&mut base, fails);
         let mut step = Proof::new(base.lines.len());
-        let fails = step.property(1, &[opp(lit(3, 1))]);
-        let before = step.equation(3, 1, 1, &[lit(3, 1), opp(lit(2, 0))]);
-        let starts = step.equation(2, 0, 1, &[lit(2, 0), opp(lit(0, 0))]);
-        let truth = step.equation(0, 0, 0, &[lit(0, 0)]);
-        let joined = step.join(before, fails, lit(3, 1));
-        let joined = step.join(starts, joined, lit(2, 0));
-        step.join(truth, joined, lit(0, 0));
+        let fails = step.fails(3, 1..=1);
+        at_instant_1(&mut step, fails);
         let certificate = CertificateFile {
             depth: 1,
             base: base.lines,
             step: step.lines,
             ..CertificateFile::default()
         };
-        refused(&node, &certificate, 17, AtLine(7));
+        // The same line is right in the base.
+        assert_eq!(certificate.base[6], certificate.step[2]);
+        refused(&node, &certificate, 17, AtLine(13));
     }
+}
+
+/// That 3 holds at offset 1 if offset 0 is instant 0, where 2 is true.
+fn at_instant_1(proof: &mut Proof, fails: u16) {
+    let before = proof.equation(3, 1, 1, &[lit(3, 1), opp(lit(2, 0))]);
+    let starts = proof.equation(2, 0, 1, &[lit(2, 0), opp(lit(0, 0))]);
+    let truth = proof.equation(0, 0, 0, &[lit(0, 0)]);
+    let joined = proof.join(before, fails, lit(3, 1));
+    let joined = proof.join(starts, joined, lit(2, 0));
+    proof.join(truth, joined, lit(0, 0));
 }
 
 /// "dropping the −1 from a negated constraint": the negation of u ≤ v is
@@ -111,42 +108,46 @@ fn a_negated_constraint_keeps_its_minus_1() {
 #[test]
 fn a_join_strikes_one_sign_from_each_clause() {
     let node = NodeFile::new(vec![Record::input(BOOL), Record::not(0)], 0);
-    let part = |first: usize, q: u16, last: &[u16]| {
+    let part = |first: usize, offsets: RangeInclusive<u16>, both_struck: bool| {
         let mut proof = Proof::new(first);
-        let fails = proof.property(q, &[opp(lit(0, q))]);
-        let either = proof.equation(1, q, 0, &[lit(1, q), lit(0, q)]);
-        let neither = proof.equation(1, q, 1, &[opp(lit(1, q)), opp(lit(0, q))]);
-        let both = proof.join(either, neither, lit(1, q));
-        assert_eq!(proof.clause(both), [lit(0, q), opp(lit(0, q))]);
-        proof.push(Line::join(both, fails, lit(0, q), last));
+        let mut left = proof.fails(0, offsets.clone());
+        for q in offsets {
+            let either = proof.equation(1, q, 0, &[lit(1, q), lit(0, q)]);
+            let neither = proof.equation(1, q, 1, &[opp(lit(1, q)), opp(lit(0, q))]);
+            let both = proof.join(either, neither, lit(1, q));
+            assert_eq!(proof.clause(both), [lit(0, q), opp(lit(0, q))]);
+            let mut literals = proof.clause(left).to_vec();
+            literals.retain(|literal| !both_struck || *literal != opp(lit(0, q)));
+            left = proof.push(Line::join(both, left, lit(0, q), &literals));
+        }
         proof.lines
     };
     let mut certificate = CertificateFile {
         depth: 1,
-        base: part(0, 0, &[]),
-        step: part(5, 1, &[]),
+        base: part(0, 0..=1, true),
+        step: part(9, 1..=1, true),
         ..CertificateFile::default()
     };
+    assert_eq!(certificate.base[8].count, 0);
+    assert_eq!(certificate.step[4].count, 0);
     refused(&node, &certificate, 19, AtLine(4));
-    certificate.base = part(0, 0, &[opp(lit(0, 0))]);
-    refused(&node, &certificate, 19, AtLine(9));
-    certificate.step = part(5, 1, &[opp(lit(0, 1))]);
+    certificate.base = part(0, 0..=1, false);
+    refused(&node, &certificate, 19, AtLine(13));
+    certificate.step = part(9, 1..=1, false);
     refused(&node, &certificate, 21, Place::Base);
     // Nor does it strike the opposite from p, or r from q.
     let both = [lit(0, 0), opp(lit(0, 0))];
     let with_itself = |literals: &[u16]| Line::join(3, 3, lit(0, 0), literals);
-    let mut longer = certificate.clone();
-    longer.base[4] = with_itself(&both);
-    refused(&node, &longer, 21, Place::Base);
+    let longer = |literals: &[u16]| with_base_lines(&certificate, &[with_itself(literals)]);
+    refused(&node, &longer(&both), 21, Place::Base);
     for literals in [&[][..], &both[..1], &both[1..]] {
-        longer.base[4] = with_itself(literals);
-        refused(&node, &longer, 19, AtLine(4));
+        refused(&node, &longer(literals), 19, AtLine(9));
     }
 }
 
-/// "a step line citing a base line": 0 is false -> pre 1, 1 is true and the
-/// property is not 0, which fails at instant 1; the base's {!0 at 0} is not
-/// the step's.
+/// "a step line citing a base line": 2 is false -> pre true, 3 is false -> pre
+/// 2 and the property is not 3, which fails at instant 2; the base's {!2 at 0}
+/// is not the step's.
 #[test]
 fn a_step_line_may_not_cite_a_base_line() {
     let records = vec![
@@ -159,23 +160,22 @@ fn a_step_line_may_not_cite_a_base_line() {
     let node = NodeFile::new(records, 4);
     assert_eq!(property_values(&node, 3), [1, 1, 0]);
     let mut base = Proof::new(0);
-    let fails = base.property(0, &[opp(lit(4, 0))]);
+    let fails = base.fails(4, 0..=1);
     let or_3 = base.equation(4, 0, 0, &[lit(4, 0), lit(3, 0)]);
     let is_3 = base.join(or_3, fails, lit(4, 0));
     let starts = base.equation(3, 0, 0, &[opp(lit(3, 0)), lit(0, 0)]);
     let falsity = base.equation(0, 0, 0, &[opp(lit(0, 0))]);
     let not_3 = base.join(starts, falsity, lit(0, 0));
-    base.join(is_3, not_3, lit(3, 0));
+    let fails = base.join(is_3, not_3, lit(3, 0));
     // What the step lacks: 2 is false at its offset 0.
     let starts = base.equation(2, 0, 0, &[opp(lit(2, 0)), lit(0, 0)]);
     let not_2 = base.join(starts, falsity, lit(0, 0));
     assert_eq!(base.clause(not_2), [opp(lit(2, 0))]);
+    let is_2 = was_2(&mut base, fails);
+    base.join(is_2, not_2, lit(2, 0));
     let mut step = Proof::new(base.lines.len());
-    let fails = step.property(1, &[opp(lit(4, 1))]);
-    let or_3 = step.equation(4, 1, 0, &[lit(4, 1), lit(3, 1)]);
-    let is_3 = step.join(or_3, fails, lit(4, 1));
-    let before = step.equation(3, 1, 0, &[opp(lit(3, 1)), lit(2, 0)]);
-    let is_2 = step.join(is_3, before, lit(3, 1));
+    let fails = step.fails(4, 1..=1);
+    let is_2 = was_2(&mut step, fails);
     step.push(Line::join(is_2, not_2, lit(2, 0), &[]));
     let mut certificate = CertificateFile {
         depth: 1,
@@ -183,12 +183,21 @@ fn a_step_line_may_not_cite_a_base_line() {
         step: step.lines,
         ..CertificateFile::default()
     };
-    refused(&node, &certificate, 19, AtLine(14));
+    refused(&node, &certificate, 19, AtLine(19));
     certificate.step[5] = Line::join(not_2, is_2, opp(lit(2, 0)), &[]);
-    refused(&node, &certificate, 19, AtLine(14));
+    refused(&node, &certificate, 19, AtLine(19));
     certificate.step.pop();
     refused(&node, &certificate, 21, Place::Step);
     assert_eq!(search::certificate(&node.bytes(), 1), None);
+}
+
+/// The line that 2 holds at offset 0, from one that the property, not 3, fails
+/// at offset 1.
+fn was_2(proof: &mut Proof, fails: u16) -> u16 {
+    let or_3 = proof.equation(4, 1, 0, &[lit(4, 1), lit(3, 1)]);
+    let is_3 = proof.join(or_3, fails, lit(4, 1));
+    let before = proof.equation(3, 1, 0, &[opp(lit(3, 1)), lit(2, 0)]);
+    proof.join(is_3, before, lit(3, 1))
 }
 
 /// Twice 3 is 6, so no cut of 2·u at most 6 and minus 2·u at most −6 may say
@@ -224,22 +233,25 @@ fn a_cut_is_rounded_toward_minus_infinity() {
 /// but for the line that "0 at most k" is `forged`, `times` of which clash
 /// with `others` of the two other constraints.
 fn at_most_one_less(forged: Constraint, times: u32, others: u32, k: i64) -> CertificateFile {
-    let part = |first: usize, q: u16| {
-        let [most, least, below] = [0, 1, 2].map(|i| on(3 * q + i));
+    let part = |first: usize, offsets: RangeInclusive<u16>| {
         let mut proof = Proof::new(first);
-        let fails = proof.property(q, &[opp(lit(2, q))]);
-        let either = proof.equation(2, q, 1, &[lit(2, q), below]);
-        let is_below = proof.join(either, fails, lit(2, q));
-        let is_most = proof.equation(0, q, 0, &[most]);
-        let is_least = proof.equation(1, q, 1, &[least]);
-        let weighted = [(most, times), (least, others), (below, others)];
-        let mut line = proof.arithmetic(&weighted.map(|(literal, m)| (opp(literal), m)));
-        for (unit, literal) in [(is_below, below), (is_most, most), (is_least, least)] {
-            line = proof.join(unit, line, literal);
+        let mut left = proof.fails(2, offsets.clone());
+        for q in offsets {
+            let [most, least, below] = [0, 1, 2].map(|i| on(3 * q + i));
+            let either = proof.equation(2, q, 1, &[lit(2, q), below]);
+            let is_below = proof.join(either, left, lit(2, q));
+            let is_most = proof.equation(0, q, 0, &[most]);
+            let is_least = proof.equation(1, q, 1, &[least]);
+            let weighted = [(most, times), (least, others), (below, others)];
+            left = proof.arithmetic(&weighted.map(|(literal, m)| (opp(literal), m)));
+            for (unit, literal) in [(is_below, below), (is_most, most), (is_least, least)] {
+                left = proof.join(unit, left, literal);
+            }
         }
         proof.lines
     };
-    let (base, step) = (part(0, 0), part(9, 1));
+    let base = part(0, 0..=1);
+    let step = part(base.len(), 1..=1);
     let constraints = [0, 1].map(|q| {
         let mut forged = forged;
         forged.terms[0].offset = q;
@@ -284,11 +296,11 @@ fn a_factor_is_of_bound_and_coefficients_alike() {
 #[test]
 fn both_parts_are_checked() {
     let (node, certificate) = two_bands();
-    for number in 0..24 {
+    for number in 0..35 {
         let mut wrong = certificate.clone();
         let line = match number {
-            0..12 => &mut wrong.base[number],
-            _ => &mut wrong.step[number - 12],
+            0..23 => &mut wrong.base[number],
+            _ => &mut wrong.step[number - 23],
         };
         line.literals[0] ^= 1;
         let expected = match (line.kind, line.count) {

@@ -10,10 +10,11 @@ use reference::build::random::{damage, Random};
 use reference::build::{lit, on, opp, CertificateFile, Constraint, Line, NodeFile, Record};
 use reference::build::{BOOL, INT};
 use reference::list::{fields, files};
+use std::fs;
 use std::path::Path;
 use std::process::{Command, Output};
 
-/// The listing of examples/two-bands.
+/// The listing of the two bands.
 const TWO_BANDS: &str = "\
 node: 112 bytes, note 0, version 1, streams 6, property 5, distance 112
 stream 0 bool = input
@@ -22,32 +23,43 @@ stream 2 bool = not 0
 stream 3 bool = 1 and 2
 stream 4 bool = 0 and 3
 stream 5 bool = not 4 (property)
-certificate: 1936 bytes, note 0, version 1, depth 1, constraints 0, base lines 12, step lines 12, distance 1936
-line 0 base: property at 0 gives {!5@0}
+certificate: 2816 bytes, note 0, version 2, depth 1, constraints 0, base lines 23, step lines 12, distance 2816
+line 0 base: property at 0 gives {!5@0, !5@1}
 line 1 base: clause 0 of stream 5 at 0 gives {5@0, 4@0}
-line 2 base: join of 0 and 1 on !5@0 gives {4@0}
+line 2 base: join of 1 and 0 on 5@0 gives {4@0, !5@1}
 line 3 base: clause 0 of stream 4 at 0 gives {!4@0, 0@0}
-line 4 base: join of 2 and 3 on 4@0 gives {0@0}
+line 4 base: join of 2 and 3 on 4@0 gives {!5@1, 0@0}
 line 5 base: clause 1 of stream 4 at 0 gives {!4@0, 3@0}
-line 6 base: join of 2 and 5 on 4@0 gives {3@0}
+line 6 base: join of 2 and 5 on 4@0 gives {!5@1, 3@0}
 line 7 base: clause 1 of stream 3 at 0 gives {!3@0, 2@0}
-line 8 base: join of 6 and 7 on 3@0 gives {2@0}
+line 8 base: join of 6 and 7 on 3@0 gives {!5@1, 2@0}
 line 9 base: clause 1 of stream 2 at 0 gives {!2@0, !0@0}
-line 10 base: join of 8 and 9 on 2@0 gives {!0@0}
-line 11 base: join of 4 and 10 on 0@0 gives { }
-line 12 step: property at 1 gives {!5@1}
-line 13 step: clause 0 of stream 5 at 1 gives {5@1, 4@1}
-line 14 step: join of 12 and 13 on !5@1 gives {4@1}
-line 15 step: clause 0 of stream 4 at 1 gives {!4@1, 0@1}
-line 16 step: join of 14 and 15 on 4@1 gives {0@1}
-line 17 step: clause 1 of stream 4 at 1 gives {!4@1, 3@1}
-line 18 step: join of 14 and 17 on 4@1 gives {3@1}
-line 19 step: clause 1 of stream 3 at 1 gives {!3@1, 2@1}
-line 20 step: join of 18 and 19 on 3@1 gives {2@1}
-line 21 step: clause 1 of stream 2 at 1 gives {!2@1, !0@1}
-line 22 step: join of 20 and 21 on 2@1 gives {!0@1}
-line 23 step: join of 16 and 22 on 0@1 gives { }
-accepted depth 1 base 12 step 12
+line 10 base: join of 8 and 9 on 2@0 gives {!5@1, !0@0}
+line 11 base: join of 4 and 10 on 0@0 gives {!5@1}
+line 12 base: clause 0 of stream 5 at 1 gives {5@1, 4@1}
+line 13 base: join of 12 and 11 on 5@1 gives {4@1}
+line 14 base: clause 0 of stream 4 at 1 gives {!4@1, 0@1}
+line 15 base: join of 13 and 14 on 4@1 gives {0@1}
+line 16 base: clause 1 of stream 4 at 1 gives {!4@1, 3@1}
+line 17 base: join of 13 and 16 on 4@1 gives {3@1}
+line 18 base: clause 1 of stream 3 at 1 gives {!3@1, 2@1}
+line 19 base: join of 17 and 18 on 3@1 gives {2@1}
+line 20 base: clause 1 of stream 2 at 1 gives {!2@1, !0@1}
+line 21 base: join of 19 and 20 on 2@1 gives {!0@1}
+line 22 base: join of 15 and 21 on 0@1 gives { }
+line 23 step: property at 1 gives {!5@1}
+line 24 step: clause 0 of stream 5 at 1 gives {5@1, 4@1}
+line 25 step: join of 24 and 23 on 5@1 gives {4@1}
+line 26 step: clause 0 of stream 4 at 1 gives {!4@1, 0@1}
+line 27 step: join of 25 and 26 on 4@1 gives {0@1}
+line 28 step: clause 1 of stream 4 at 1 gives {!4@1, 3@1}
+line 29 step: join of 25 and 28 on 4@1 gives {3@1}
+line 30 step: clause 1 of stream 3 at 1 gives {!3@1, 2@1}
+line 31 step: join of 29 and 30 on 3@1 gives {2@1}
+line 32 step: clause 1 of stream 2 at 1 gives {!2@1, !0@1}
+line 33 step: join of 31 and 32 on 2@1 gives {!0@1}
+line 34 step: join of 27 and 33 on 0@1 gives { }
+accepted depth 1 base 23 step 12
 ";
 
 /// What the program does with these arguments.
@@ -58,13 +70,35 @@ fn program(paths: &[&Path]) -> Output {
 
 #[test]
 fn two_bands_as_a_whole() {
-    let folder = named("two-bands");
-    let listing = files(&folder.node, Some(&folder.certificate));
+    let (node, certificate) = two_bands();
+    let written = [
+        ("two-bands.node", node.bytes()),
+        ("two-bands.cert", certificate.bytes()),
+    ];
+    let listing = files(&written[0].1, Some(&written[1].1));
     assert_eq!(listing.join("\n") + "\n", TWO_BANDS);
-    let paths = [folder.path.join("node.bin"), folder.path.join("cert.bin")];
+    let paths = written.map(|(name, bytes)| {
+        let path = Path::new(env!("CARGO_TARGET_TMPDIR")).join(name);
+        fs::write(&path, bytes).unwrap();
+        path
+    });
     let output = program(&[&paths[0], &paths[1]]);
     assert!(output.status.success());
     assert_eq!(String::from_utf8(output.stdout).unwrap(), TWO_BANDS);
+}
+
+/// A file of another version is listed as it stands.
+#[test]
+fn every_version_is_listed() {
+    let (node, certificate) = two_bands();
+    for version in [0, 1, 3, 255] {
+        let listing = files(&node.bytes(), Some(&certificate.bytes_of_version(version)));
+        let (verdict, listing) = listing.split_last().unwrap();
+        assert_eq!(verdict, "refused 12 file");
+        let said = format!("note 0, version {version}, depth 1");
+        assert!(listing[7].contains(&said), "{}", listing[7]);
+        assert!(TWO_BANDS.lines().skip(8).take(35).eq(&listing[8..]));
+    }
 }
 
 #[test]
@@ -325,21 +359,21 @@ fn notes_and_trailers() {
     let (node, certificate) = two_bands();
     let (node, certificate) = (
         lengthened(&node.bytes(), 115),
-        lengthened(&certificate.bytes(), 2000),
+        lengthened(&certificate.bytes(), 2880),
     );
     let listing = files(&node, Some(&certificate));
     assert_eq!(
         listing[0],
         "node: 115 bytes, note 3, version 1, streams 6, property 5, distance 112"
     );
-    assert!(listing[7].starts_with("certificate: 2000 bytes, note 64, version 1, depth 1, "));
-    assert_eq!(listing.last().unwrap(), "accepted depth 1 base 12 step 12");
+    assert!(listing[7].starts_with("certificate: 2880 bytes, note 64, version 2, depth 1, "));
+    assert_eq!(listing.last().unwrap(), "accepted depth 1 base 23 step 12");
     let listing = files(
         &patched_back(&node, 1, &[1]),
         Some(&patched_back(&certificate, 5, &[1])),
     );
     assert!(listing[0].ends_with("distance 112 [a field that should be 0 is not]"));
-    assert!(listing[7].ends_with("distance 1936 [a field that should be 0 is not]"));
+    assert!(listing[7].ends_with("distance 2816 [a field that should be 0 is not]"));
     assert_eq!(listing[1], "stream 0 bool = input");
     assert_eq!(listing.last().unwrap(), "refused 2 file");
 }
@@ -366,15 +400,15 @@ fn what_is_left_of_a_file() {
         "refused 4 file",
     ];
     assert_eq!(listing, left);
-    let listing = files(&node, Some(&certificate[22 * 80 + 1..]));
+    let listing = files(&node, Some(&certificate[33 * 80 + 1..]));
     assert!(listing[7].starts_with("certificate: 175 bytes, note 0, "));
     assert_eq!(
         listing[8],
-        "missing: the first 23 of 24 blocks, but for 79 bytes"
+        "missing: the first 34 of 35 blocks, but for 79 bytes"
     );
     assert_eq!(
         listing[9],
-        "line 23 step: join of 16 and 22 on 0@1 gives { }"
+        "line 34 step: join of 27 and 33 on 0@1 gives { }"
     );
     assert_eq!(listing[10], "refused 14 file");
     let typed = patched(&node, 3 * 16 + 1, &[1]);

@@ -161,7 +161,7 @@ fn random_bytes() {
             bytes
         };
         let node_framed = framed(&node, [0x4C, 0x4E, 1, 0], 12..16);
-        let certificate_framed = framed(&certificate, [0x4B, 0x43, 1, 0], 10..12);
+        let certificate_framed = framed(&certificate, [0x4B, 0x43, 2, 0], 10..12);
         let valid = random::node(&mut random, 6).bytes();
         let _ = checked(&mut random, &(node, certificate.clone()));
         let _ = checked(&mut random, &(node_framed, certificate.clone()));

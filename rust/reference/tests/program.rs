@@ -42,7 +42,10 @@ fn run(folder: &PathBuf) -> String {
 fn the_worked_example() {
     let (node, certificate) = two_bands();
     let line = printed("example", Some(&node.bytes()), Some(&certificate.bytes()));
-    assert_eq!(line, "accepted depth 1 base 12 step 12\n");
+    assert_eq!(line, "accepted depth 1 base 23 step 12\n");
+    let old = certificate.bytes_of_version(1);
+    let line = printed("version-1", Some(&node.bytes()), Some(&old));
+    assert_eq!(line, "refused 12 file\n");
 }
 
 #[test]
@@ -85,7 +88,7 @@ fn files_that_are_too_long() {
     );
     let fits = lengthened(&certificate, 65_535);
     let line = printed("fits", Some(&node), Some(&fits));
-    assert_eq!(line, "accepted depth 1 base 12 step 12\n");
+    assert_eq!(line, "accepted depth 1 base 23 step 12\n");
 }
 
 #[test]

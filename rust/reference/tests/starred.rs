@@ -1,4 +1,4 @@
-//! The starred cases of 01.
+//! The starred cases of 01, the two bands as 02 has them redone.
 
 mod common;
 #[path = "common/examples.rs"]
@@ -8,6 +8,7 @@ use common::{accepted, constant_certificate, node_accepted, node_refused, trial,
 use reference::answer::{Place, Refusal};
 use reference::build::search;
 use reference::build::{lit, on, opp, Constraint, Line, NodeFile, Record, BOOL, INT};
+use reference::certificate::check;
 use reference::certificate::literal::{Atom, Literal};
 use reference::certificate::Part::{Base, Step};
 use reference::session::{begin, instant, Record as Session};
@@ -28,6 +29,60 @@ fn two_bands_on_1_and_1() {
     assert_eq!(first_instant(&node, &[1, 1]), Ok(vec![1, 1, 0, 0, 0, 1]));
 }
 
+/// 01's clauses after "{!5}": "{5, 4}, join {4}, {!4, 0}, join {0}, {!4, 3},
+/// join {3}, {!3, 2}, join {2}, {!2, !0}, join {!0}, join { }", at an offset.
+/// The joins also have the literals `kept`.
+fn eleven_clauses(q: u16, kept: &[u16]) -> Vec<Vec<u16>> {
+    let at = |stream| lit(stream, q);
+    let not = |stream| opp(at(stream));
+    let joined = |literals: &[u16]| [literals, kept].concat();
+    vec![
+        vec![at(5), at(4)],
+        joined(&[at(4)]),
+        vec![not(4), at(0)],
+        joined(&[at(0)]),
+        vec![not(4), at(3)],
+        joined(&[at(3)]),
+        vec![not(3), at(2)],
+        joined(&[at(2)]),
+        vec![not(2), not(0)],
+        joined(&[not(0)]),
+        joined(&[]),
+    ]
+}
+
+/// 02: "The two-band certificate, redone at both base instants, prints base 23
+/// and step 12."
+#[test]
+fn two_bands_redone() {
+    let (node, certificate) = two_bands();
+    let verdict = check(&node.bytes(), &certificate.bytes()).unwrap();
+    assert_eq!(verdict.to_string(), "accepted depth 1 base 23 step 12");
+    let clauses = |lines: &[Line]| -> Vec<Vec<u16>> {
+        let literals = lines.iter().map(Line::clause);
+        literals.map(sorted).collect()
+    };
+    let fails = vec![11, 139];
+    let base = [
+        vec![fails],
+        eleven_clauses(0, &[139]),
+        eleven_clauses(1, &[]),
+    ]
+    .concat();
+    let step = [vec![vec![139]], eleven_clauses(1, &[])].concat();
+    for (lines, wanted) in [(&certificate.base, base), (&certificate.step, step)] {
+        let wanted: Vec<_> = wanted.iter().map(|clause| sorted(clause)).collect();
+        assert_eq!(clauses(lines), wanted);
+    }
+}
+
+/// The literals of a clause, whose order in a join is free.
+fn sorted(clause: &[u16]) -> Vec<u16> {
+    let mut clause = clause.to_vec();
+    clause.sort_unstable();
+    clause
+}
+
 /// "!5 at offset 0 is literal 11, at offset 1 it is 139."
 #[test]
 fn literal_numbers() {
@@ -42,8 +97,8 @@ fn literal_numbers() {
         assert_eq!(opp(lit(5, offset)), number);
     }
     let (_, certificate) = two_bands();
-    assert_eq!(certificate.base[0].literals[0], 11);
-    assert_eq!(certificate.step[0].literals[0], 139);
+    assert_eq!(certificate.base[0].clause(), [11, 139]);
+    assert_eq!(certificate.step[0].clause(), [139]);
 }
 
 /// "Sum 0 + 0 on input 4611686018427387903 gives 9223372036854775806; one
@@ -118,8 +173,8 @@ fn no_base_lines() {
     let (node, mut certificate) = two_bands();
     certificate.base.clear();
     for line in certificate.step.iter_mut().filter(|line| line.kind == 3) {
-        line.p -= 12;
-        line.q -= 12;
+        line.p -= 23;
+        line.q -= 23;
     }
     common::refused(&node, &certificate, 21, Place::Base);
     certificate.step.clear();

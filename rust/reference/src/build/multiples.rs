@@ -3,7 +3,7 @@
 
 use super::proof::Proof;
 use super::{lit, on, opp, CertificateFile, Constraint, Line, NodeFile, Record, INT};
-use std::ops::Range;
+use std::ops::RangeInclusive;
 
 /// 0 is an int input; 1 is m times 0; 2 is k; 3 is 1 equal to 2; 4 is not 3,
 /// the property, which holds unless m divides k.
@@ -22,8 +22,9 @@ pub fn node(m: u16, k: i32) -> NodeFile {
 /// "minus 0 at most `bounds[1]`". It is right if these are k and −k divided
 /// by m, rounded toward minus infinity, and m does not divide k.
 pub fn certificate(m: u16, k: i32, depth: u8, bounds: [i64; 2]) -> CertificateFile {
-    let base = part(m, 0, 0..depth);
-    let step = part(m, base.len(), depth..depth + 1);
+    let last = u16::from(depth);
+    let base = part(m, 0, 0..=last);
+    let step = part(m, base.len(), last..=last);
     let at = |offset| constraints(m, k, offset, bounds);
     CertificateFile {
         note: Vec::new(),
@@ -57,13 +58,11 @@ fn constraints(m: u16, k: i32, offset: u8, [upper, lower]: [i64; 2]) -> [Constra
     ]
 }
 
-/// A part: the property fails at none of its offsets.
-fn part(m: u16, first: usize, offsets: Range<u8>) -> Vec<Line> {
-    let q = if first == 0 { 0 } else { offsets.start };
+/// A part: the property fails at none of these offsets.
+fn part(m: u16, first: usize, offsets: RangeInclusive<u16>) -> Vec<Line> {
     let mut proof = Proof::new(first);
-    let fails: Vec<u16> = offsets.clone().map(|q| opp(lit(4, q.into()))).collect();
-    let mut left = proof.property(q.into(), &fails);
-    for q in offsets.map(u16::from) {
+    let mut left = proof.fails(4, offsets.clone());
+    for q in offsets {
         let either = proof.equation(4, q, 0, &[lit(4, q), lit(3, q)]);
         left = proof.join(either, left, lit(4, q));
         let differ = differ(&mut proof, m, q);

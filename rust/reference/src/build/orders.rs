@@ -3,6 +3,7 @@
 
 use super::proof::Proof;
 use super::{lit, on, opp, CertificateFile, Constraint, Line, NodeFile, Record, INT};
+use std::ops::RangeInclusive;
 
 /// 0 and 1 are int inputs u and v; 2 is u at most v, 3 is v at most u, and 4
 /// is 2 or 3, the property.
@@ -30,8 +31,8 @@ pub fn certificate([more, less]: [i64; 2]) -> CertificateFile {
     };
     let multipliers = if more == less { [1, 1] } else { [less, more] };
     let multipliers = multipliers.map(|m| u32::try_from(m).unwrap_or(u32::MAX));
-    let base = part(0, 0, multipliers);
-    let step = part(base.len(), 1, multipliers);
+    let base = part(0, 0..=1, multipliers);
+    let step = part(base.len(), 1..=1, multipliers);
     CertificateFile {
         note: Vec::new(),
         depth: 1,
@@ -41,12 +42,21 @@ pub fn certificate([more, less]: [i64; 2]) -> CertificateFile {
     }
 }
 
-/// Not 2 and not 3, so that v < u and u < v, which add up to a contradiction.
-fn part(first: usize, q: u16, multipliers: [u32; 2]) -> Vec<Line> {
+/// A part: the property fails at none of these offsets.
+fn part(first: usize, offsets: RangeInclusive<u16>, multipliers: [u32; 2]) -> Vec<Line> {
+    let mut proof = Proof::new(first);
+    let mut left = proof.fails(4, offsets.clone());
+    for q in offsets {
+        left = without(&mut proof, left, q, multipliers);
+    }
+    proof.lines
+}
+
+/// The line `fails` without its literal at q: not 2 and not 3, so that v < u
+/// and u < v, which add up to a contradiction.
+fn without(proof: &mut Proof, fails: u16, q: u16, multipliers: [u32; 2]) -> u16 {
     let at = |stream| lit(stream, q);
     let constraints = [2 * q, 2 * q + 1].map(on);
-    let mut proof = Proof::new(first);
-    let fails = proof.property(q, &[opp(at(4))]);
     let below = [(2, constraints[0]), (3, constraints[1])].map(|(stream, below)| {
         let either = proof.equation(4, q, stream - 2, &[at(4), opp(at(stream))]);
         let is_not = proof.join(either, fails, at(4));
@@ -56,6 +66,5 @@ fn part(first: usize, q: u16, multipliers: [u32; 2]) -> Vec<Line> {
     let [v_u, u_v] = [0, 1].map(|i| (opp(constraints[i]), multipliers[i]));
     let clash = proof.arithmetic(&[v_u, u_v]);
     let clash = proof.join(below[0], clash, constraints[0]);
-    proof.join(below[1], clash, constraints[1]);
-    proof.lines
+    proof.join(below[1], clash, constraints[1])
 }

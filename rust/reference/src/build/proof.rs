@@ -1,6 +1,8 @@
-//! A part's lines as they are written one after another, and 01's example.
+//! A part's lines as they are written one after another, and 01's example as
+//! 02 has it redone.
 
 use super::{lit, opp, CertificateFile, Line, NodeFile, Record, BOOL};
+use std::ops::RangeInclusive;
 
 /// The lines of one part.
 #[derive(Clone, Debug, Default)]
@@ -34,6 +36,14 @@ impl Proof {
     /// Adds a line of kind 2.
     pub fn property(&mut self, q: u16, literals: &[u16]) -> u16 {
         self.push(Line::property(q, literals))
+    }
+
+    /// Adds the line of kind 2 that says that the property fails at one of
+    /// these offsets: 0 to k in the base, k alone in the step.
+    pub fn fails(&mut self, property: u16, offsets: RangeInclusive<u16>) -> u16 {
+        let q = *offsets.start();
+        let literals: Vec<u16> = offsets.map(|q| opp(lit(property, q))).collect();
+        self.property(q, &literals)
     }
 
     /// Adds a line of kind 4.
@@ -88,34 +98,43 @@ pub fn two_bands_node() -> NodeFile {
     NodeFile::new(records, 5)
 }
 
-/// 01's twelve lines: "{!5}, {5, 4}, join {4}, {!4, 0}, join {0}, {!4, 3},
-/// join {3}, {!3, 2}, join {2}, {!2, !0}, join {!0}, join { }".
-fn two_bands_part(first: usize, q: u16) -> Vec<Line> {
+/// 01's eleven lines after "{!5}", at offset q: "{5, 4}, join {4}, {!4, 0},
+/// join {0}, {!4, 3}, join {3}, {!3, 2}, join {2}, {!2, !0}, join {!0}, join
+/// { }". Each join keeps what else stands in the line `fails`.
+fn two_bands_lines(proof: &mut Proof, fails: u16, q: u16) -> u16 {
     let at = |stream| lit(stream, q);
     let not = |stream| opp(lit(stream, q));
-    let mut proof = Proof::new(first);
-    let not_5 = proof.property(q, &[not(5)]);
     let line = proof.equation(5, q, 0, &[at(5), at(4)]);
-    let only_4 = proof.join(line, not_5, at(5));
+    let is_4 = proof.join(line, fails, at(5));
     let line = proof.equation(4, q, 0, &[not(4), at(0)]);
-    let only_0 = proof.join(only_4, line, at(4));
+    let is_0 = proof.join(is_4, line, at(4));
     let line = proof.equation(4, q, 1, &[not(4), at(3)]);
-    let only_3 = proof.join(only_4, line, at(4));
+    let is_3 = proof.join(is_4, line, at(4));
     let line = proof.equation(3, q, 1, &[not(3), at(2)]);
-    let only_2 = proof.join(only_3, line, at(3));
+    let is_2 = proof.join(is_3, line, at(3));
     let line = proof.equation(2, q, 1, &[not(2), not(0)]);
-    let not_0 = proof.join(only_2, line, at(2));
-    proof.join(only_0, not_0, at(0));
+    let not_0 = proof.join(is_2, line, at(2));
+    proof.join(is_0, not_0, at(0))
+}
+
+/// A part of the certificate: the property fails at none of these offsets.
+pub fn two_bands_part(first: usize, offsets: RangeInclusive<u16>) -> Vec<Line> {
+    let mut proof = Proof::new(first);
+    let mut left = proof.fails(5, offsets.clone());
+    for q in offsets {
+        left = two_bands_lines(&mut proof, left, q);
+    }
     proof.lines
 }
 
-/// 01's certificate: twelve base lines at offset 0, and "the step is the same
-/// at offset 1".
+/// 02: "The two-band certificate, redone at both base instants".
 pub fn two_bands_certificate() -> CertificateFile {
+    let base = two_bands_part(0, 0..=1);
+    let step = two_bands_part(base.len(), 1..=1);
     CertificateFile {
         depth: 1,
-        base: two_bands_part(0, 0),
-        step: two_bands_part(12, 1),
+        base,
+        step,
         ..CertificateFile::default()
     }
 }

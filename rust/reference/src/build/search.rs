@@ -33,8 +33,9 @@ pub fn certificate(node_file: &[u8], depth: u8) -> Option<CertificateFile> {
     (16 + 80 * blocks <= 65_535).then_some(found)
 }
 
-/// The lines of one part.
-fn part(
+/// The lines of one part, numbered from `first`; it adds the constraints it
+/// needs.
+pub fn part(
     node: &Node,
     depth: u8,
     part: Part,
@@ -86,21 +87,19 @@ impl Search<'_> {
     fn add_axioms(&mut self, node: &Node, depth: u8, part: Part) -> Option<()> {
         let property = u16::from(node.property());
         let k = u16::from(depth);
-        let last = match part {
+        match part {
             Part::Base => {
-                let nowhere: Vec<u16> = (0..k).map(|q| opp(lit(property, q))).collect();
-                self.add_axiom(Line::property(0, &nowhere));
-                depth.checked_sub(1)?
+                let fails: Vec<u16> = (0..=k).map(|q| opp(lit(property, q))).collect();
+                self.add_axiom(Line::property(0, &fails));
             }
             Part::Step => {
                 for q in 0..k {
                     self.add_axiom(Line::property(q, &[lit(property, q)]));
                 }
                 self.add_axiom(Line::property(k, &[opp(lit(property, k))]));
-                depth
             }
-        };
-        for q in 0..=last {
+        }
+        for q in 0..=depth {
             for p in (0..).take(node.count()) {
                 self.add_equations(node, part, p, q)?;
             }

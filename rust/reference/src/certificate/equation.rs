@@ -225,13 +225,13 @@ fn comparison_clause(equation: Equation, stream: u8, offset: u8, r: u16) -> Opti
 }
 
 /// 01: "12, 13 with t the operand chosen"; "Base: t is a at offset 0; later b
-/// at the same offset (12) or one lower (13). Step offset 0 gives none."
+/// at the same offset (12) or one lower (13)." 02: "operator 12 at step offset
+/// 0 takes b. Operator 13 still gives nothing there."
 fn chosen(equation: Equation, part: Part, offset: u8) -> Option<(u8, u8)> {
-    match (equation, offset, part) {
-        (Equation::Arrow { a, .. } | Equation::ArrowPre { a, .. }, 0, Part::Base) => Some((a, 0)),
-        (_, 0, _) => None,
+    match (equation, part, offset) {
+        (Equation::Arrow { a, .. } | Equation::ArrowPre { a, .. }, Part::Base, 0) => Some((a, 0)),
         (Equation::Arrow { b, .. }, _, _) => Some((b, offset)),
-        (Equation::ArrowPre { b, .. }, _, _) => Some((b, offset - 1)),
+        (Equation::ArrowPre { b, .. }, _, _) => Some((b, offset.checked_sub(1)?)),
         _ => None,
     }
 }

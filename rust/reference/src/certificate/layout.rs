@@ -3,6 +3,8 @@
 use super::{BLOCK, MAX_DEPTH};
 use crate::answer::Refusal;
 
+/// 02: "Certificate version becomes 2".
+const VERSION: u8 = 2;
 /// Length of the trailer.
 const TRAILER: usize = 16;
 /// 01: "From 16 to 65,535 bytes".
@@ -55,10 +57,12 @@ struct Trailer {
 }
 
 impl Trailer {
-    /// Refusal 12: "fixed bytes", which are 0x4B, 0x43, version 1 in front
-    /// and the two zero bytes after the counts.
+    /// Refusal 12: "fixed bytes", which are 0x4B, 0x43 and the version in
+    /// front and the two zero bytes after the counts. 02: "Version 1 files are
+    /// now refused with 12."
     fn decode(bytes: &[u8; TRAILER]) -> Result<Self, Refusal> {
-        let [0x4B, 0x43, 1, depth, c0, c1, b0, b1, s0, s1, 0, 0, distance @ ..] = *bytes else {
+        let [0x4B, 0x43, VERSION, depth, c0, c1, b0, b1, s0, s1, 0, 0, distance @ ..] = *bytes
+        else {
             return Err(Refusal::file(12));
         };
         Ok(Trailer {

@@ -231,15 +231,14 @@ impl<'a> Checker<'a> {
         }
     }
 
-    /// Kind 1: "clause r, counted from 0, of stream p at offset q (base:
-    /// below k; step: up to k). Literals equal the list below in its order,
-    /// constraints unnegated"; 02 says how these match.
+    /// Kind 1: "clause r, counted from 0, of stream p at offset q". 01 has
+    /// "step: up to k", and 02 "the base covers instants 0 to k".
+    ///
+    /// "Literals equal the list below in its order, constraints unnegated";
+    /// 02 says how these match.
     fn is_equation(&self, line: &Line, part: Part) -> bool {
-        let offsets = match part {
-            Part::Base => 0..self.depth,
-            Part::Step => 0..self.depth + 1,
-        };
-        let Some(offset) = u8::try_from(line.q).ok().filter(|q| offsets.contains(q)) else {
+        let allowed = |q: &u8| *q <= self.depth;
+        let Some(offset) = u8::try_from(line.q).ok().filter(allowed) else {
             return false;
         };
         let Some(listed) = equation::clause(self.node, part, line.p, offset, line.r) else {
@@ -265,8 +264,9 @@ impl<'a> Checker<'a> {
         }
     }
 
-    /// Kind 2: "Base: q = 0 and not-prop at offsets 0 to k − 1, rising. Step:
-    /// prop at q where q is below k; not-prop where q = k."
+    /// Kind 2. Base: "q = 0 and not-prop at offsets", "rising", which by 02
+    /// are those that the base covers, "0 to k". "Step: prop at q where q is
+    /// below k; not-prop where q = k."
     fn is_property(&self, line: &Line, part: Part) -> bool {
         let literals = line.clause.literals();
         let holds = |offset| Literal::stream(self.node.property(), offset);
@@ -274,7 +274,7 @@ impl<'a> Checker<'a> {
             (Part::Base, Ok(0)) => literals
                 .iter()
                 .copied()
-                .eq((0..self.depth).map(|o| !holds(o))),
+                .eq((0..=self.depth).map(|o| !holds(o))),
             (Part::Step, Ok(q)) if q < self.depth => literals == [holds(q)],
             (Part::Step, Ok(q)) if q == self.depth => literals == [!holds(q)],
             _ => false,

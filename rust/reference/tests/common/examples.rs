@@ -7,6 +7,40 @@ use reference::build::{
     lit, on, opp, CertificateFile, Constraint, Line, NodeFile, Record, BOOL, INT,
 };
 use reference::build::{multiples, orders, search};
+use std::ops::RangeInclusive;
+
+/// Clause r of stream p at offset q, as p, q and r, and the constraint that is
+/// all of it.
+pub type Unit = ([u16; 3], u16);
+
+/// Adds the line that these constraints, and the `given` one, cannot all hold,
+/// and joins it with the clauses that say that they do.
+pub fn clash(proof: &mut Proof, given: Option<u16>, units: &[Unit]) -> u16 {
+    let constraints = given.into_iter().chain(units.iter().map(|unit| unit.1));
+    let weighted: Vec<_> = constraints.map(|i| (opp(on(i)), 1)).collect();
+    let mut left = proof.arithmetic(&weighted);
+    for ([p, q, r], i) in units {
+        let line = proof.equation(*p, *q, *r, &[on(*i)]);
+        left = proof.join(line, left, on(*i));
+    }
+    left
+}
+
+/// The line `fails` without its literal on a comparison at an offset: were it
+/// false, the `below` constraint would hold, which clashes with the units.
+pub fn contrary(
+    proof: &mut Proof,
+    fails: u16,
+    [comparison, q]: [u16; 2],
+    below: u16,
+    units: &[Unit],
+) -> u16 {
+    let holds = lit(comparison, q);
+    let either = proof.equation(comparison, q, 1, &[holds, on(below)]);
+    let is_below = proof.join(either, fails, holds);
+    let clash = clash(proof, Some(below), units);
+    proof.join(is_below, clash, on(below))
+}
 
 /// 0 zero; 1 one; 2 c = zero -> pre (c + one); 4 c is not below zero.
 pub fn counter() -> NodeFile {
@@ -162,25 +196,20 @@ fn one_more_constraints(offset: u8) -> [Constraint; 3] {
 }
 
 /// One part of [`one_more`]'s certificate, written by hand.
-fn one_more_part(first: usize, q: u16, constraint: u16) -> Vec<Line> {
-    let [below, sum, one] = [0, 1, 2].map(|i| on(constraint + i));
+fn one_more_part(first: usize, offsets: RangeInclusive<u16>) -> Vec<Line> {
     let mut proof = Proof::new(first);
-    let not_3 = proof.property(q, &[opp(lit(3, q))]);
-    let or_below = proof.equation(3, q, 1, &[lit(3, q), below]);
-    let is_below = proof.join(or_below, not_3, lit(3, q));
-    let is_sum = proof.equation(2, q, 1, &[sum]);
-    let is_one = proof.equation(1, q, 1, &[one]);
-    let clash = proof.arithmetic(&[(opp(below), 1), (opp(sum), 1), (opp(one), 1)]);
-    let clash = proof.join(is_below, clash, below);
-    let clash = proof.join(is_sum, clash, sum);
-    proof.join(is_one, clash, one);
+    let mut left = proof.fails(3, offsets.clone());
+    for q in offsets {
+        let units = [([2, q, 1], 3 * q + 1), ([1, q, 1], 3 * q + 2)];
+        left = contrary(&mut proof, left, [3, q], 3 * q, &units);
+    }
     proof.lines
 }
 
 /// [`one_more`]'s certificate, written by hand.
 pub fn one_more_certificate() -> CertificateFile {
-    let base = one_more_part(0, 0, 0);
-    let step = one_more_part(base.len(), 1, 3);
+    let base = one_more_part(0, 0..=1);
+    let step = one_more_part(base.len(), 1..=1);
     let constraints = [one_more_constraints(0), one_more_constraints(1)];
     CertificateFile {
         note: Vec::new(),
@@ -188,6 +217,63 @@ pub fn one_more_certificate() -> CertificateFile {
         constraints: constraints.concat(),
         base,
         step,
+    }
+}
+
+/// 2 is 5 -> 0 and 3 is 0 -> pre 2, which is 0, 5, 0 and so on; that it is at
+/// most 5 is the property.
+pub fn late_five() -> NodeFile {
+    let records = vec![
+        Record::constant(INT, 5),
+        Record::constant(INT, 0),
+        Record::arrow(INT, 0, 1),
+        Record::arrow_pre(INT, 1, 2),
+        Record::at_most(3, 0),
+    ];
+    NodeFile::new(records, 4)
+}
+
+/// The constraints of [`late_five`]'s certificate.
+fn late_five_constraints() -> Vec<Constraint> {
+    let difference = |x: (u16, u8), y: (u16, u8), bound| {
+        let mut terms = [(x.0, x.1, 1), (y.0, y.1, -1)];
+        terms.sort_unstable_by_key(|(stream, offset, _)| (*offset, *stream));
+        Constraint::new(&terms, bound)
+    };
+    vec![
+        difference((0, 0), (3, 0), -1),
+        difference((3, 0), (1, 0), 0),
+        Constraint::new(&[(1, 0, 1)], 0),
+        Constraint::new(&[(0, 0, -1)], -5),
+        difference((0, 1), (3, 1), -1),
+        difference((3, 1), (2, 0), 0),
+        difference((2, 0), (0, 0), 0),
+        difference((2, 0), (1, 0), 0),
+        Constraint::new(&[(0, 0, 1)], 5),
+        Constraint::new(&[(0, 1, -1)], -5),
+    ]
+}
+
+/// [`late_five`]'s certificate, written by hand. At offset 0 stream 2 is 5 in
+/// the base, and 0 in the step.
+pub fn late_five_certificate() -> CertificateFile {
+    let mut base = Proof::new(0);
+    let fails = base.fails(4, 0..=1);
+    let first = [([3, 0, 0], 1), ([1, 0, 0], 2), ([0, 0, 1], 3)];
+    let fails = contrary(&mut base, fails, [4, 0], 0, &first);
+    let (before, last) = (([3, 1, 0], 5), ([0, 1, 1], 9));
+    let second = [before, ([2, 0, 0], 6), ([0, 0, 0], 8), last];
+    contrary(&mut base, fails, [4, 1], 4, &second);
+    let mut step = Proof::new(base.lines.len());
+    let fails = step.fails(4, 1..=1);
+    let units = [before, ([2, 0, 0], 7), ([1, 0, 0], 2), last];
+    contrary(&mut step, fails, [4, 1], 4, &units);
+    CertificateFile {
+        note: Vec::new(),
+        depth: 1,
+        constraints: late_five_constraints(),
+        base: base.lines,
+        step: step.lines,
     }
 }
 
@@ -202,6 +288,7 @@ pub fn provable() -> Vec<(NodeFile, u8)> {
         (first_only(), 1),
         (five_then_nothing(), 1),
         (twins(), 1),
+        (late_five(), 1),
         (brought_inside(), 1),
         (ten_is_the_lesser(), 1),
         (nothing_doubled(), 2),
@@ -230,6 +317,7 @@ pub fn certified() -> Vec<(NodeFile, CertificateFile)> {
         (two_bands_node(), two_bands_certificate()),
         (one_more(), one_more_certificate()),
         (one_more(), one_more_certificate().times(2)),
+        (late_five(), late_five_certificate()),
         (orders::node(), orders::certificate([2, 3])),
         never(2, 7, 1),
         never(3, -5, 2),

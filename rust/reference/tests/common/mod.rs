@@ -4,9 +4,11 @@
 
 use reference::answer::{Accepted, Place, Refusal};
 use reference::build::proof::{two_bands_certificate, two_bands_node, Proof};
-use reference::build::{lit, opp, CertificateFile, Line, NodeFile, Record, BOOL, INT};
+use reference::build::{lit, CertificateFile, Line, NodeFile, Record, BOOL, INT};
 use reference::certificate::Part;
+use reference::session::{begin, instant, Record as Session};
 use reference::{certificate, node};
+use std::ops::RangeInclusive;
 
 /// The node file is refused with this number and place, and has no note.
 #[track_caller]
@@ -46,9 +48,21 @@ pub fn accepted(node: &NodeFile, certificate: &CertificateFile) {
     assert_eq!(verdict, Ok(expected));
 }
 
-/// 01's two bands and their certificate.
+/// 01's two bands and their certificate, as 02 has it redone.
 pub fn two_bands() -> (NodeFile, CertificateFile) {
     (two_bands_node(), two_bands_certificate())
+}
+
+/// The property's values on a node without inputs.
+pub fn property_values(node: &NodeFile, instants: usize) -> Vec<i64> {
+    let mut session = Session::new();
+    begin(&mut session, &node.bytes()).unwrap();
+    let mut values = vec![0; node.records.len()];
+    let mut run = || {
+        instant(&mut session, &[], &mut values).unwrap();
+        values[usize::from(node.property)]
+    };
+    (0..instants).map(|_| run()).collect()
 }
 
 /// The file with the bytes from `at` on replaced.
@@ -81,15 +95,10 @@ pub fn comparing_node() -> NodeFile {
     NodeFile::new(records, 3)
 }
 
-/// Lines that refute a part where stream `property` is constantly true.
-fn constant_part(property: u16, depth: u8, part: Part, first: usize) -> Vec<Line> {
+/// Lines that refute, at these offsets, a stream that is constantly true.
+fn constant_part(property: u16, first: usize, offsets: RangeInclusive<u16>) -> Vec<Line> {
     let mut proof = Proof::new(first);
-    let (offsets, q) = match part {
-        Part::Base => (0..u16::from(depth), 0),
-        Part::Step => (u16::from(depth)..u16::from(depth) + 1, u16::from(depth)),
-    };
-    let refuted: Vec<u16> = offsets.clone().map(|q| opp(lit(property, q))).collect();
-    let mut left = proof.property(q, &refuted);
+    let mut left = proof.fails(property, offsets.clone());
     for q in offsets {
         let holds = proof.equation(property, q, 0, &[lit(property, q)]);
         left = proof.join(holds, left, lit(property, q));
@@ -99,8 +108,9 @@ fn constant_part(property: u16, depth: u8, part: Part, first: usize) -> Vec<Line
 
 /// A certificate for a node whose property is operator 1, true.
 pub fn constant_certificate(property: u16, depth: u8) -> CertificateFile {
-    let base = constant_part(property, depth, Part::Base, 0);
-    let step = constant_part(property, depth, Part::Step, base.len());
+    let k = u16::from(depth);
+    let base = constant_part(property, 0, 0..=k);
+    let step = constant_part(property, base.len(), k..=k);
     CertificateFile {
         depth,
         base,
