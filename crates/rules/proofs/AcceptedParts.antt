@@ -1,5 +1,5 @@
--- Both parts of a certificate that keeps the rules: no window in which the node's equations hold satisfies the part's property
--- lines.
+-- Both parts of a certificate that keeps the rules: no window in which the clauses of the node's equations are true satisfies the part's
+-- property lines.
 -- Assumes nothing.
 use mathlib.Core.Path.{_≡_, sym, _∙_, ap, subst}
 use mathlib.Core.Bool.{true}
@@ -19,7 +19,6 @@ use Rattle.rules.specs.Verdict.{typesOfNode, linesOf, windowOf, baseOf, 
 use Rattle.rules.specs.Satisfaction.{Valuation, Satisfies}
 use Rattle.rules.specs.Theorems.{Covers}
 use Rattle.rules.specs.Versions.{Version}
-use Rattle.rules.specs.Windows.{Solves}
 use Rattle.rules.proofs.Contradiction.{accepted}
 use Rattle.rules.proofs.ConstraintLimits.{names-constraint}
 use Rattle.rules.proofs.LineParts.{part-base, part-step, from-is}
@@ -27,7 +26,7 @@ use Rattle.rules.proofs.ShapeFacts.{ShapeFacts, shape-facts}
 use Rattle.rules.proofs.ArithmeticLines.{arithmetic-satisfied}
 use Rattle.rules.proofs.CertificateFacts.{constraint-limited}
 use Rattle.rules.proofs.Cuts.{cut-facts, all-on, cut-satisfied, accepted as cut-accepted}
-use Rattle.rules.proofs.EquationLines.{equation-satisfied}
+use Rattle.rules.proofs.EquationLines.{ClausesTrue, equation-satisfied}
 use Rattle.rules.proofs.Parts.{Premises, refuted}
 
 -- a part: its window is that of each of its lines, and one of them is empty
@@ -73,10 +72,10 @@ module _ (version : Version) (covers : Covers version) (node cert : List ℕ) (r
 
   module _ (part : Window) (p : IsPart version node cert part) (w : Valuation) where
     premises :
-        Solves version (nodeOf node) (part .opening) (part .offsets) w
+        ClausesTrue version (nodeOf node) (part .opening) (part .offsets) w
         → ((line : Line) → part .property line ≡ true → Satisfies (constraintOf cert) w line)
         → Premises (constraintOf cert) (lineOf cert) part w
-    premises solves property =
+    premises true-there property =
         let listed : (i : ℕ) → i < part .until → i < linesOf cert = λ i m. omega (arith, p .lines) in
         record {
           least = λ i l m. shape i (listed i m) .least;
@@ -84,7 +83,7 @@ module _ (version : Version) (covers : Covers version) (node cert : List ℕ) (r
           equations =
               λ i l m kind.
               equation-satisfied version covers node cert rules i (rules .equations i (listed i m) kind) w
-              (subst (λ (v : Window). Solves version (nodeOf node) (v .opening) (v .offsets) w) (sym (p .is i l m)) solves);
+              (subst (λ (v : Window). ClausesTrue version (nodeOf node) (v .opening) (v .offsets) w) (sym (p .is i l m)) true-there);
           properties =
               λ i l m kind.
               property (lineOf cert i)
@@ -99,7 +98,7 @@ module _ (version : Version) (covers : Covers version) (node cert : List ℕ) (r
         }
 
     pub part-refuted :
-        Solves version (nodeOf node) (part .opening) (part .offsets) w
+        ClausesTrue version (nodeOf node) (part .opening) (part .offsets) w
         → ((line : Line) → part .property line ≡ true → Satisfies (constraintOf cert) w line)
         → ⊥
-    part-refuted solves property = refuted (constraintOf cert) (lineOf cert) part w (premises solves property) (p .ends)
+    part-refuted true-there property = refuted (constraintOf cert) (lineOf cert) part w (premises true-there property) (p .ends)

@@ -1,4 +1,4 @@
--- Rule 17: an equation line is satisfied by every window in which the node's equations hold.
+-- Rule 17: an equation line is satisfied by every window in which the clauses are true, as they are where the node's equations hold.
 -- Assumes nothing.
 use mathlib.Core.Path.{_≡_}
 use mathlib.Core.Bool.{Bool, true, false, cond}
@@ -34,12 +34,18 @@ use Rattle.rules.proofs.ClauseLines.{numbered-satisfied}
 use Rattle.rules.proofs.ClausesHold.{PastAt, clauses-true}
 use Rattle.rules.proofs.ClausesNamed.{ClauseBelow, clauses-below}
 
+-- the clauses of stream p at offset q
+abbrev pub clausesAt : Version → Node → (opening : Position) → (p q : ℕ) → List Clause
+clausesAt version node opening p q =
+    clauses version (node .types p) (node .equations p) (positionOf opening q) (variable q) (variable (q - 1)) (variable q p)
+
+-- in a window all clauses at the offsets below `offsets` are true
+abbrev pub ClausesTrue : Version → Node → (opening : Position) → (offsets : ℕ) → Valuation → Type 0
+ClausesTrue version node opening offsets w =
+    (p q : ℕ) → p < node .streams → q < offsets → AllTrue w (clausesAt version node opening p q)
+
 module _ (version : Version) (node : Node) (formed : WellFormedNode node) (few : node .streams ≤ 64) (opening : Position) where
   -- ---- stream p at offset q
-
-  abbrev clausesAt : (p q : ℕ) → List Clause
-  clausesAt p q =
-      clauses version (node .types p) (node .equations p) (positionOf opening q) (variable q) (variable (q - 1)) (variable q p)
 
   module _ (p q : ℕ) (l : p < node .streams) where
     -- what the place of the offset says
@@ -56,32 +62,35 @@ module _ (version : Version) (node : Node) (formed : WellFormedNode node) (few :
         )
 
     -- its clauses are true, and of small variables
-    row-true : (w : Valuation) → RowHolds version node opening w q p → AllTrue w (clausesAt p q)
+    row-true : (w : Valuation) → RowHolds version node opening w q p → AllTrue w (clausesAt version node opening p q)
     row-true w row =
         clauses-true version w (variable q) (variable (q - 1)) (variable q p) (node .types p) (positionOf opening q) (row .input) (row .first)
         (row .past) (node .equations p) (formed .constants p l) (past-at w row) (row .value)
 
-    row-below : q < 9 → All (ClauseBelow 576) (clausesAt p q)
+    row-below : q < 9 → All (ClauseBelow 576) (clausesAt version node opening p q)
     row-below low =
         clauses-below 576 (variable q p) (omega arith) version (variable q) (variable (q - 1)) (node .types p) (node .equations p) (positionOf opening q)
         (all-map {P = ReadOk (node .streams) (node .types) p}
         (λ r ok. record { at = omega (arith, ok .below); before = omega (arith, ok .below); needed = λ _. omega (arith, ok .below) })
         (reads (node .equations p)) (formed .operands p l))
 
-  -- ---- a line
+  -- ---- a window, and a line
+
+  pub solved-true : (offsets : ℕ) (w : Valuation) → Solves version node opening offsets w → ClausesTrue version node opening offsets w
+  solved-true offsets w solves p q l o = row-true p q l w (solves .rows q p o l)
 
   pub equation-in-satisfied :
       (constraints : ℕ → Constraint) (m : ℕ) → ((i : ℕ) → i < m → Named (constraints i) (usedIn (constraints i)))
       → (offsets : ℕ) → offsets ≤ 9
       → (line : Line) → EquationLine version (node .streams) (node .types) (node .equations) constraints m offsets opening line
-      → (w : Valuation) → Solves version node opening offsets w
+      → (w : Valuation) → ClausesTrue version node opening offsets w
       → Satisfies constraints w line
-  equation-in-satisfied constraints m named offsets nine line e w solves =
+  equation-in-satisfied constraints m named offsets nine line e w true-there =
       let p = line .head .p in
       let q = line .head .q in
       let o = e .offset in
-      numbered-satisfied constraints w m (λ i k. below-written (constraints i) (usedIn (constraints i)) (named i k)) line (clausesAt p q)
-      (line .head .r) (row-below p q (e .stream) (omega arith)) (row-true p q (e .stream) w (solves .rows q p o (e .stream))) (e .literals)
+      numbered-satisfied constraints w m (λ i k. below-written (constraints i) (usedIn (constraints i)) (named i k)) line (clausesAt version node opening p q)
+      (line .head .r) (row-below p q (e .stream) (omega arith)) (true-there p q (e .stream) o) (e .literals)
 
 -- ---- a certificate
 
@@ -94,10 +103,10 @@ offsets-few version covers cert property i deep = go (ltb i (trailerOf cert .bas
     go false = omega arith
 
 pub equation-satisfied : (version : Version) → Covers version → (node cert : List ℕ) → CertificateRules version node cert → (i : ℕ) → EquationKept version node cert i
-    → (w : Valuation) → Solves version (nodeOf node) (windowOf version node cert i .opening) (windowOf version node cert i .offsets) w
+    → (w : Valuation) → ClausesTrue version (nodeOf node) (windowOf version node cert i .opening) (windowOf version node cert i .offsets) w
     → Satisfies (constraintOf cert) w (lineOf cert i)
-equation-satisfied version covers node cert rules i e w solves =
+equation-satisfied version covers node cert rules i e w true-there =
     equation-in-satisfied version (nodeOf node) (well-formed node (rules .node-rules)) (sizes node (rules .node-rules .file) .few)
     (windowOf version node cert i .opening) (constraintOf cert) (trailerOf cert .constraints)
     (λ j l. constraint-limited version node cert rules j l .variables) (windowOf version node cert i .offsets)
-    (offsets-few version covers cert (propertyOf node) i (certificate-sizes version cert (rules .file) .deep)) (lineOf cert i) e w solves
+    (offsets-few version covers cert (propertyOf node) i (certificate-sizes version cert (rules .file) .deep)) (lineOf cert i) e w true-there

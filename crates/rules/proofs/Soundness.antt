@@ -28,6 +28,7 @@ use Rattle.rules.specs.Versions.{Version, version1, version2}
 use Rattle.rules.specs.Windows.{windowFrom, Solves}
 use Rattle.rules.proofs.AcceptedParts.{base-part, step-part, part-refuted}
 use Rattle.rules.proofs.CertificateFacts.{certificate-sizes}
+use Rattle.rules.proofs.EquationLines.{solved-true}
 use Rattle.rules.proofs.PropertyLines.{holdsAt, base-property-satisfied, step-property-satisfied}
 use Rattle.rules.proofs.SolutionWindows.{window-at, not-first, solves-window}
 
@@ -86,7 +87,8 @@ module _ (version : Version) (covers : Covers version) (node cert : List ℕ) (r
   base-holds w solves q l =
       not-false-true (holdsAt w prop q)
       (λ fails.
-      part-refuted version covers node cert rules (baseOf version node cert) (base-part version covers node cert rules) w solves
+      part-refuted version covers node cert rules (baseOf version node cert) (base-part version covers node cert rules) w
+      (solved-true version (nodeOf node) formed few (baseOf version node cert .opening) (version .covered k) w solves)
       (λ line ok. base-property-satisfied (constraintOf cert) w k prop deep low (version .covered k) (covers .within k) line ok q l fails))
 
   -- .. and in the step's at offset k, where it holds at those below
@@ -94,7 +96,8 @@ module _ (version : Version) (covers : Covers version) (node cert : List ℕ) (r
   step-holds w solves before =
       not-false-true (holdsAt w prop k)
       (λ fails.
-      part-refuted version covers node cert rules (stepOf node cert) (step-part version covers node cert rules) w solves
+      part-refuted version covers node cert rules (stepOf node cert) (step-part version covers node cert rules) w
+      (solved-true version (nodeOf node) formed few (stepOf node cert .opening) (k + 1) w solves)
       (λ line ok. step-property-satisfied (constraintOf cert) w k prop deep low line ok before fails))
 
   module _ (inputs : Inputs) (values : Streams) (solution : Solution (nodeOf node) inputs values) where

@@ -1,5 +1,4 @@
--- The starred cases: what is claimed of each is computed, or follows from what is computed. Those on certificates are computed for both
--- versions at once, version 2 first.
+-- The starred cases: what is claimed of each is computed, or follows from what is computed.
 -- Assumes nothing.
 use mathlib.Core.Path.{_≡_, refl, sym, _∙_, ap}
 use mathlib.Core.List.{List, [], _∷_}
@@ -40,7 +39,7 @@ use Rattle.session.proofs.CallAnswers.{answered-typed}
 use Rattle.session.proofs.JustBegun.{begun-stands}
 use Rattle.session.proofs.Standing.{worked-out-is}
 use Rattle.soundness.specs.Files.{noughts, minusOne, atMost, line, certificateFile}
-use Rattle.soundness.specs.Starred.{FirstCall, Answers, checks, reads, refuses, twoBands, doubling, ofSize, constantTrue, ofDepth, trueAndInts, opposites, bandsWhole, stepAlone, bothAsked, greatestDoubled, leastDoubled, cases, archivedCases, Holds, Starred, ArchivedStarred}
+use Rattle.soundness.specs.Starred.{FirstCall, Answers, checks, reads, refuses, twoBands, doubling, ofSize, constantTrue, ofDepth, trueAndInts, opposites, bandsWhole, stepAlone, bothAsked, greatestDoubled, leastDoubled, cases, Holds, Starred}
 
 -- what is computed of a first call: the verdict on its file, the answer and the values
 record Computed (c : FirstCall) : Type 0 where
@@ -90,24 +89,20 @@ unfolding doubling nodeFile recordBytes trailerBytes nodeVerdict recordsVerdict 
 least-doubled = record { node = record { streams = 3; property = 2 }; is-accepted = refl; answered = refl; values = refl }
 
 opposites-pass : Holds (checks version2 trueAndInts (opposites version2 (minusOne 8) (noughts 8)) (accepted (record { depth = 1; base = 6; step = 3 })))
-    × Holds (checks version1 trueAndInts (opposites version1 (minusOne 8) (noughts 8)) (accepted (record { depth = 1; base = 4; step = 3 })))
 unfolding trueAndInts opposites atMost nodeFile recordBytes trailerBytes nodeVerdict recordsVerdict typesVerdict isAmong isReady lowestReady orderAfter neededNow equationReads rowFor lengthOk fixedOk countsOk distanceOk lowest shapeOk unusedOk operandsOk typesOk propertyOk rowOf recordsOf recordAmong twosComplement line certificateFile certFixed certCounts certDistance verdictOf fileVerdict beforeLines constraintsVerdict partsVerdict linesVerdict every shapePasses lineShape slotOk numbersOk namesAtom lineFault kindFault typeAmong decoded equationIn clauseIs basePropertyOk stepPropertyOk listedIn standsFrom joins joinOk constraintOk termOk usedOk rises termUnused usedIn written sumOf arithmeticOk
-opposites-pass = (refl, refl)
+opposites-pass = refl
 
 opposites-fail : Holds (checks version2 trueAndInts (opposites version2 (noughts 8) (noughts 8)) (refused 20 (AtLine 5)))
-    × Holds (checks version1 trueAndInts (opposites version1 (noughts 8) (noughts 8)) (refused 20 (AtLine 3)))
 unfolding trueAndInts opposites atMost nodeFile recordBytes trailerBytes nodeVerdict recordsVerdict typesVerdict isAmong isReady lowestReady orderAfter neededNow equationReads rowFor lengthOk fixedOk countsOk distanceOk lowest shapeOk unusedOk operandsOk typesOk propertyOk rowOf recordsOf recordAmong twosComplement line certificateFile certFixed certCounts certDistance verdictOf fileVerdict beforeLines constraintsVerdict partsVerdict linesVerdict every shapePasses lineShape slotOk numbersOk namesAtom lineFault kindFault typeAmong decoded equationIn clauseIs basePropertyOk stepPropertyOk listedIn standsFrom joins joinOk constraintOk termOk usedOk rises termUnused usedIn written sumOf arithmeticOk
-opposites-fail = (refl, refl)
+opposites-fail = refl
 
 depth-8 : Holds (checks version2 constantTrue (ofDepth version2 8) (accepted (record { depth = 8; base = 19; step = 3 })))
-    × Holds (checks version1 constantTrue (ofDepth version1 8) (accepted (record { depth = 8; base = 17; step = 3 })))
 unfolding constantTrue ofDepth nodeFile recordBytes trailerBytes nodeVerdict recordsVerdict typesVerdict isAmong isReady lowestReady orderAfter neededNow equationReads rowFor lengthOk fixedOk countsOk distanceOk lowest shapeOk unusedOk operandsOk typesOk propertyOk rowOf recordsOf recordAmong twosComplement line certificateFile certFixed certCounts certDistance verdictOf fileVerdict beforeLines constraintsVerdict partsVerdict linesVerdict every shapePasses lineShape slotOk numbersOk namesAtom lineFault kindFault typeAmong decoded equationIn clauseIs basePropertyOk stepPropertyOk listedIn standsFrom joins joinOk
-depth-8 = (refl, refl)
+depth-8 = refl
 
 depth-9 : Holds (checks version2 constantTrue (ofDepth version2 9) (refused 13 File))
-    × Holds (checks version1 constantTrue (ofDepth version1 9) (refused 13 File))
 unfolding constantTrue ofDepth nodeFile recordBytes trailerBytes nodeVerdict recordsVerdict typesVerdict isAmong isReady lowestReady orderAfter neededNow decoded equationReads rowFor lengthOk fixedOk countsOk distanceOk lowest shapeOk unusedOk operandsOk typesOk propertyOk rowOf recordsOf recordAmong twosComplement line certificateFile certFixed certCounts certDistance verdictOf fileVerdict beforeLines
-depth-9 = (refl, refl)
+depth-9 = refl
 
 size-64 : Holds (reads (ofSize 64) (accepted (record { streams = 64; property = 0 })))
 unfolding ofSize nodeFile recordBytes trailerBytes nodeVerdict recordsVerdict typesVerdict isAmong isReady lowestReady orderAfter neededNow decoded equationReads rowFor lengthOk fixedOk countsOk distanceOk lowest shapeOk unusedOk operandsOk typesOk propertyOk rowOf recordsOf recordAmong twosComplement
@@ -118,21 +113,15 @@ unfolding ofSize nodeFile recordBytes trailerBytes nodeVerdict recordsVerdict ty
 size-65 = refl
 
 bands-whole : Holds (checks version2 twoBands (bandsWhole version2) (accepted (record { depth = 1; base = 23; step = 12 })))
-    × Holds (checks version1 twoBands (bandsWhole version1) (accepted (record { depth = 1; base = 12; step = 12 })))
     × Holds (checks version2 twoBands (bandsWhole version1) (refused 12 File))
 unfolding twoBands bandsWhole nodeFile recordBytes trailerBytes nodeVerdict recordsVerdict typesVerdict isAmong isReady lowestReady orderAfter neededNow equationReads rowFor lengthOk fixedOk countsOk distanceOk lowest shapeOk unusedOk operandsOk typesOk propertyOk rowOf recordsOf recordAmong twosComplement line certificateFile certFixed certCounts certDistance verdictOf fileVerdict beforeLines constraintsVerdict partsVerdict linesVerdict every shapePasses lineShape slotOk numbersOk namesAtom lineFault kindFault typeAmong decoded equationIn clauseIs basePropertyOk stepPropertyOk listedIn standsFrom joins joinOk
-bands-whole = (refl, refl, refl)
+bands-whole = (refl, refl)
 
 no-base-lines : Holds (checks version2 twoBands (stepAlone version2) (refused 21 Base))
-    × Holds (checks version1 twoBands (stepAlone version1) (refused 21 Base))
 unfolding twoBands stepAlone nodeFile recordBytes trailerBytes nodeVerdict recordsVerdict typesVerdict isAmong isReady lowestReady orderAfter neededNow equationReads rowFor lengthOk fixedOk countsOk distanceOk lowest shapeOk unusedOk operandsOk typesOk propertyOk rowOf recordsOf recordAmong twosComplement line certificateFile certFixed certCounts certDistance verdictOf fileVerdict beforeLines constraintsVerdict partsVerdict linesVerdict every shapePasses lineShape slotOk numbersOk namesAtom lineFault kindFault typeAmong decoded equationIn clauseIs basePropertyOk stepPropertyOk listedIn standsFrom joins joinOk
-no-base-lines = (refl, refl)
+no-base-lines = refl
 
 pub starred : Starred
 unfolding cases
 starred =
-    (answers-by bothAsked both-asked, (refl, (refl, (answers-by greatestDoubled greatest-doubled, (one-more, (answers-by leastDoubled least-doubled, (opposites-pass .0, (opposites-fail .0, (depth-8 .0, (depth-9 .0, (size-64, (size-65, (bands-whole .0, (no-base-lines .0, (bands-whole .2, tt)))))))))))))))
-
-pub archived-starred : ArchivedStarred
-unfolding archivedCases
-archived-starred = (opposites-pass .1, (opposites-fail .1, (depth-8 .1, (depth-9 .1, (bands-whole .1, (no-base-lines .1, tt))))))
+    (answers-by bothAsked both-asked, (refl, (refl, (answers-by greatestDoubled greatest-doubled, (one-more, (answers-by leastDoubled least-doubled, (opposites-pass, (opposites-fail, (depth-8, (depth-9, (size-64, (size-65, (bands-whole .0, (no-base-lines, (bands-whole .1, tt)))))))))))))))

@@ -1,5 +1,5 @@
--- The starred cases: one list, and one theorem over the list (proofs/StarredCases.antt); and one list of the archive's, those on
--- certificates as they were answered in version 1, with its theorem.
+-- The starred cases: one list, and one theorem over the list (proofs/StarredCases.antt). Those on certificates as they were answered in
+-- version 1 are the archive's (archive/specs/Cases.antt), with its theorem.
 use mathlib.Core.Path.{_≡_}
 use Prim.Native.Nat.{ℕ, zero, suc, _+_, _-_, _*_, _<_}
 use mathlib.Core.List.{List, [], _∷_, _++_}
@@ -219,17 +219,6 @@ cases =
     ∷ checks version2 twoBands (bandsWhole version1) (refused 12 File)
     ∷ []
 
--- the same cases on certificates as they stood before version 2
-unfoldable pub archivedCases : List Case
-archivedCases =
-    checks version1 trueAndInts (opposites version1 (minusOne 8) (noughts 8)) (accepted (record { depth = 1; base = 4; step = 3 }))
-    ∷ checks version1 trueAndInts (opposites version1 (noughts 8) (noughts 8)) (refused 20 (AtLine 3))
-    ∷ checks version1 constantTrue (ofDepth version1 8) (accepted (record { depth = 8; base = 17; step = 3 }))
-    ∷ checks version1 constantTrue (ofDepth version1 9) (refused 13 File)
-    ∷ checks version1 twoBands (bandsWhole version1) (accepted (record { depth = 1; base = 12; step = 12 }))
-    ∷ checks version1 twoBands (stepAlone version1) (refused 21 Base)
-    ∷ []
-
 -- the file is accepted and the inputs are typed; the call is answered and leaves the values; and every solution on inputs that start
 -- with them has these values at instant 0
 pub record Answers (c : FirstCall) : Type 0 where
@@ -249,6 +238,3 @@ Holds (checks version node cert answer) = verdictOf version node cert ≡ answer
 
 abbrev pub Starred : Type 0
 Starred = All Holds cases
-
-abbrev pub ArchivedStarred : Type 0
-ArchivedStarred = All Holds archivedCases
