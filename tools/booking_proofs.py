@@ -36,36 +36,37 @@ def free_minutes():
     proof = Proof(1)
     most = comparing(proof)
 
-    def part(o, free_is_not_negative):
-        """`free_is_not_negative` gives lines whose sum is that 0 is at most 3 at this offset."""
+    def part(o, free_is_not_negative, *fails):
+        """That 7 holds at this offset. `free_is_not_negative` gives lines whose sum is that 0 is at most 3 there."""
         zero = proof.equation(1, o, 0, proof.at_most({(1, o): 1}, 0))
-        negative = proof.strike(proof.equation(7, o, 1, lit(7, o), most((6, o), (1, o), -1)), proof.property(o, opp(lit(7, o))))
+        negative = proof.strike(proof.equation(7, o, 1, lit(7, o), most((6, o), (1, o), -1)), *fails)
         not_4 = proof.clash(negative, zero, proof.equation(6, o, 1, opp(lit(4, o)), most((5, o), (6, o))),
                             proof.equation(5, o, 1, proof.at_most({(3, o): 1, (0, o): -1, (5, o): -1}, 0)),
                             proof.equation(4, o, 0, opp(lit(4, o)), most((0, o), (3, o))))
         four = proof.clash(negative, zero, proof.equation(6, o, 3, lit(4, o), most((3, o), (6, o))), *free_is_not_negative())
-        proof.strike(four, not_4)
+        return proof.strike(four, not_4)
 
-    part(0, lambda: (proof.equation(3, 0, 1, most((2, 0), (3, 0))), proof.equation(2, 0, 1, proof.at_most({(2, 0): -1}, -90))))
+    def later(holds, *fails):
+        return part(1, lambda: (
+            proof.equation(3, 1, 1, most((6, 0), (3, 1))), proof.equation(1, 0, 1, proof.at_most({(1, 0): -1}, 0)),
+            proof.strike(proof.equation(7, 0, 0, opp(lit(7)), most((1, 0), (6, 0))), holds)), *fails)
+
+    fails = proof.fails(7)
+    holds = part(0, lambda: (proof.equation(3, 0, 1, most((2, 0), (3, 0))),
+                             proof.equation(2, 0, 1, proof.at_most({(2, 0): -1}, -90))))
+    proof.strike(fails, holds, later(holds))
     proof.begin_step()
-    part(1, lambda: (proof.equation(3, 1, 1, most((6, 0), (3, 1))), proof.equation(1, 0, 1, proof.at_most({(1, 0): -1}, 0)),
-                     proof.strike(proof.equation(7, 0, 0, opp(lit(7)), most((1, 0), (6, 0))), proof.property(0, lit(7)))))
+    later(proof.property(0, lit(7)), proof.property(1, opp(lit(7, 1))))
     return proof.certificate()
 
 
-def turns():
-    proof, s, t = Proof(1), at(0), at(1)
-    true = proof.equation(2, 0, 0, s(2))
-    turn = proof.strike(proof.equation(4, 0, 1, s(4), opp(s(2))), true)
-    last = proof.strike(proof.equation(10, 0, 1, s(10), opp(s(2))), true)
-    proof.strike(proof.equation(13, 0, 3, s(13), opp(s(4)), opp(s(10))), turn, last, proof.property(0, opp(s(13))))
-    proof.begin_step()
-
+def same_turn_later(proof, holds, *fails):
+    """That 13 holds at offset 1, from a line that it holds at 0."""
+    s, t = at(0), at(1)
     # one instant before, 9 and 12 differ, and 4 is the same as 10
-    fails, holds = proof.property(1, opp(t(13))), proof.property(0, s(13))
-    either = proof.strike(proof.equation(13, 1, 2, t(13), t(4), t(10)), fails, proof.equation(4, 1, 0, opp(t(4)), s(9)),
+    either = proof.strike(proof.equation(13, 1, 2, t(13), t(4), t(10)), *fails, proof.equation(4, 1, 0, opp(t(4)), s(9)),
                           proof.equation(10, 1, 0, opp(t(10)), s(12)))
-    not_both = proof.strike(proof.equation(13, 1, 3, t(13), opp(t(4)), opp(t(10))), fails,
+    not_both = proof.strike(proof.equation(13, 1, 3, t(13), opp(t(4)), opp(t(10))), *fails,
                             proof.equation(4, 1, 1, t(4), opp(s(9))), proof.equation(10, 1, 1, t(10), opp(s(12))))
     from_4 = proof.strike(proof.equation(13, 0, 0, opp(s(13)), opp(s(4)), s(10)), holds)
     from_10 = proof.strike(proof.equation(13, 0, 1, opp(s(13)), s(4), opp(s(10))), holds)
@@ -90,7 +91,18 @@ def turns():
     to_10 = proof.strike(proof.equation(12, 0, 2, s(6), opp(s(12)), s(11)), not_6,
                          proof.equation(11, 0, 2, opp(s(11)), s(7), s(10)), not_7)
     to_12 = proof.strike(from_11, proof.equation(11, 0, 1, s(11), opp(s(10))))
-    proof.strike(proof.strike(either, to_4, to_10, from_10), proof.strike(not_both, to_9, to_12, from_4))
+    return proof.strike(proof.strike(either, to_4, to_10, from_10), proof.strike(not_both, to_9, to_12, from_4))
+
+
+def turns():
+    proof, s, t = Proof(1), at(0), at(1)
+    fails, true = proof.fails(13), proof.equation(2, 0, 0, s(2))
+    turn = proof.strike(proof.equation(4, 0, 1, s(4), opp(s(2))), true)
+    last = proof.strike(proof.equation(10, 0, 1, s(10), opp(s(2))), true)
+    holds = proof.strike(proof.equation(13, 0, 3, s(13), opp(s(4)), opp(s(10))), turn, last)
+    proof.strike(fails, holds, same_turn_later(proof, holds))
+    proof.begin_step()
+    same_turn_later(proof, proof.property(0, s(13)), proof.property(1, opp(t(13))))
     return proof.certificate()
 
 
@@ -98,10 +110,11 @@ def quota():
     proof = Proof(1)
     most = comparing(proof)
 
-    def part(o, carried, times):
-        """`carried` gives lines whose sum, with these multipliers, is that 20 times 5 is at most 60 at this offset."""
+    def part(o, carried, times, *fails):
+        """That 14 holds at this offset. `carried` gives lines whose sum, with these multipliers, is that 20 times 5 is at most 60
+        there."""
         s = at(o)
-        over = proof.strike(proof.equation(14, o, 1, s(14), most((13, o), (12, o), -1)), proof.property(o, opp(s(14))))
+        over = proof.strike(proof.equation(14, o, 1, s(14), most((13, o), (12, o), -1)), *fails)
         # 20 times 11 is over 60
         said = (over, proof.equation(12, o, 0, proof.at_most({(12, o): 1, (11, o): -20}, 0)),
                 proof.equation(13, o, 1, proof.at_most({(13, o): -1}, -60)))
@@ -116,15 +129,21 @@ def quota():
                             proof.equation(2, o, 0, proof.at_most({(2, o): 1}, 0)), times=(1, 1, 1, 20, 20, 20))
         one = proof.clash(*said, kept, proof.equation(6, o, 2, s(1), most((6, o), (5, o))), *carried(),
                           times=(1, 1, 1, 20, 20, *times))
-        proof.strike(one, not_1)
+        return proof.strike(one, not_1)
 
-    part(0, lambda: (proof.equation(5, 0, 0, most((5, 0), (2, 0))), proof.equation(2, 0, 0, proof.at_most({(2, 0): 1}, 0))),
-         (20, 20))
+    def later(holds, *fails):
+        return part(1, lambda: (
+            proof.equation(5, 1, 0, most((5, 1), (11, 0))),
+            proof.equation(12, 0, 1, proof.at_most({(11, 0): 20, (12, 0): -1}, 0)),
+            proof.strike(proof.equation(14, 0, 0, opp(lit(14)), most((12, 0), (13, 0))), holds),
+            proof.equation(13, 0, 0, proof.at_most({(13, 0): 1}, 60))), (20, 1, 1, 1), *fails)
+
+    fails = proof.fails(14)
+    holds = part(0, lambda: (proof.equation(5, 0, 0, most((5, 0), (2, 0))),
+                             proof.equation(2, 0, 0, proof.at_most({(2, 0): 1}, 0))), (20, 20))
+    proof.strike(fails, holds, later(holds))
     proof.begin_step()
-    part(1, lambda: (proof.equation(5, 1, 0, most((5, 1), (11, 0))),
-                     proof.equation(12, 0, 1, proof.at_most({(11, 0): 20, (12, 0): -1}, 0)),
-                     proof.strike(proof.equation(14, 0, 0, opp(lit(14)), most((12, 0), (13, 0))), proof.property(0, lit(14))),
-                     proof.equation(13, 0, 0, proof.at_most({(13, 0): 1}, 60))), (20, 1, 1, 1))
+    later(proof.property(0, lit(14)), proof.property(1, opp(lit(14, 1))))
     return proof.certificate()
 
 
@@ -140,31 +159,38 @@ def handover():
     def thirty():
         return proof.equation(2, 0, 0, proof.at_most({(2, 0): 1}, 30))
 
+    def two_later(holds):
+        """That 7 holds at offset 2, from a line that it holds at 0."""
+        known = (*over(2), proof.equation(4, 2, 0, most((4, 2), (5, 1))), proof.equation(5, 1, 0, most((5, 1), (6, 0))))
+        given_up = proof.clash(*known, proof.equation(6, 0, 0, opp(lit(0)), most((6, 0), (2, 0))), thirty())
+        assumed = proof.strike(proof.equation(7, 0, 0, opp(lit(7)), most((4, 0), (3, 0))), holds)
+        kept = proof.clash(*known, proof.equation(6, 0, 2, lit(0), most((6, 0), (4, 0))), assumed,
+                           proof.equation(3, 0, 0, proof.at_most({(3, 0): 1}, 45)))
+        return proof.strike(kept, given_up)
+
+    fails = proof.fails(7)
     now = proof.clash(*over(0), proof.equation(4, 0, 0, most((4, 0), (1, 0))),
                       proof.equation(1, 0, 0, proof.at_most({(1, 0): 1}, 40)))
     later = proof.clash(*over(1), proof.equation(4, 1, 0, most((4, 1), (5, 0))), proof.equation(5, 0, 0, most((5, 0), (2, 0))),
                         thirty())
-    proof.strike(proof.property(0, opp(lit(7)), opp(lit(7, 1))), now, later)
+    proof.strike(fails, now, later, two_later(now))
     proof.begin_step()
-    known = (*over(2), proof.equation(4, 2, 0, most((4, 2), (5, 1))), proof.equation(5, 1, 0, most((5, 1), (6, 0))))
-    given_up = proof.clash(*known, proof.equation(6, 0, 0, opp(lit(0)), most((6, 0), (2, 0))), thirty())
-    assumed = proof.strike(proof.equation(7, 0, 0, opp(lit(7)), most((4, 0), (3, 0))), proof.property(0, lit(7)))
-    kept = proof.clash(*known, proof.equation(6, 0, 2, lit(0), most((6, 0), (4, 0))), assumed,
-                       proof.equation(3, 0, 0, proof.at_most({(3, 0): 1}, 45)))
-    proof.strike(kept, given_up, proof.property(2, opp(lit(7, 2))))
+    proof.strike(two_later(proof.property(0, lit(7))), proof.property(2, opp(lit(7, 2))))
     return proof.certificate()
 
 
 def start_only(proof):
-    """The base of the late nodes, whose property 3 begins true: {!3}, {3, !0}, {0}, joins {!0} and { }."""
-    proof.strike(proof.property(0, opp(lit(3))), proof.equation(3, 0, 1, lit(3), opp(lit(0))), proof.equation(0, 0, 0, lit(0)))
+    """The base of the late nodes, whose property 3 holds at instants 0 and 1: {!3, !3 at 1}, {3, !0}, {3 at 1, !2}, {2, !0}, {0};
+    joins {!0, !3 at 1}, {!2, !0}, {!0} and { }."""
+    proof.strike(proof.fails(3), proof.equation(3, 0, 1, lit(3), opp(lit(0))), proof.equation(3, 1, 1, lit(3, 1), opp(lit(2))),
+                 proof.equation(2, 0, 1, lit(2), opp(lit(0))), proof.equation(0, 0, 0, lit(0)))
 
 
 def base_for_step():
-    """The step's line 6 joins the base's {!0} and {0}."""
+    """The step's line 10 joins the base's {!0} and {0}."""
     proof = Proof(1)
     start_only(proof)
     proof.begin_step()
     proof.property(1, opp(lit(3, 1)))
-    proof.join(3, 2, opp(lit(0)))
+    proof.join(7, 4, opp(lit(0)))
     return proof.certificate()

@@ -62,7 +62,7 @@ def cut(others, last, r, times=None):
     return Line(5, r=r, literals=(*others, last), multipliers=(*(times or (1,) * len(others)), 0))
 
 
-def trailer(depth, constraints, base, step, distance=None, first=0x4B, second=0x43, version=1, zeros=0):
+def trailer(depth, constraints, base, step, distance=None, first=0x4B, second=0x43, version=2, zeros=0):
     if distance is None:
         distance = 16 + 80 * (constraints + base + step)
     return struct.pack("<BBBBHHHHI", first, second, version, depth, constraints, base, step, zeros, distance)
@@ -140,6 +140,7 @@ class Proof:
         return on(self.constraints.index(packed))
 
     def add(self, kind, literals, **fields):
+        assert len(literals) <= 12, literals
         self.lines.append(Line(kind, literals=tuple(literals), **fields))
         return len(self.lines) - 1
 
@@ -149,13 +150,17 @@ class Proof:
     def property(self, q, *literals):
         return self.add(2, literals, q=q)
 
+    def fails(self, prop):
+        """The base's property line: the property fails at some offset."""
+        return self.property(0, *[opp(lit(prop, o)) for o in range(self.depth + 1)])
+
     def arithmetic(self, *literals, times=None):
         """A kind 4 line, each multiplier 1 where none are given."""
         return self.add(4, literals, multipliers=times or (1,) * len(literals))
 
     def join(self, p, q, r, *more):
-        """Lines p and q joined on r: what they leave, each literal once, and more."""
-        left = [x for x in self.lines[p].literals if x != r] + [x for x in self.lines[q].literals if x != opp(r)]
+        """Lines p and q joined on r: what q and then p leave, each literal once, and more."""
+        left = [x for x in self.lines[q].literals if x != opp(r)] + [x for x in self.lines[p].literals if x != r]
         return self.add(3, [*dict.fromkeys(left), *more], p=p, q=q, r=r)
 
     def strike(self, line, *others):

@@ -36,12 +36,25 @@ NODES = {
 }
 
 
-def at_one_offset(prove):
-    """Of depth 1: `prove` at offset 0 for the base, and the same at offset 1 for the step."""
-    proof = Proof(1)
-    prove(proof, 0)
+def base_of(proof, prop, prove):
+    """The base, offset by offset: `prove` takes a line that has "the property fails" at its offset and maybe later ones, and
+    gives one that has the later ones alone, or none."""
+    line = proof.fails(prop)
+    for o in range(proof.depth + 1):
+        line = prove(proof, o, line)
+
+
+def step_of(proof, prop, prove):
+    """The same at the step's last offset."""
     proof.begin_step()
-    prove(proof, 1)
+    prove(proof, proof.depth, proof.property(proof.depth, opp(lit(prop, proof.depth))))
+
+
+def at_each_offset(prop, prove):
+    """Of depth 1, where nothing is remembered: `prove` at offsets 0 and 1 for the base, and at 1 for the step."""
+    proof = Proof(1)
+    base_of(proof, prop, prove)
+    step_of(proof, prop, prove)
     return proof.certificate()
 
 
@@ -50,20 +63,19 @@ def at(offset):
     return lambda stream: lit(stream, offset)
 
 
-def two_bands_part(proof, o):
-    """The twelve lines of the published rules, in their order."""
+def two_bands_part(proof, o, fails):
+    """The eleven lines of the published rules after the property's, in their order."""
     s = at(o)
-    fails = proof.property(o, opp(s(5)))
     four = proof.join(fails, proof.equation(5, o, 0, s(5), s(4)), opp(s(5)))
     zero = proof.join(four, proof.equation(4, o, 0, opp(s(4)), s(0)), s(4))
     three = proof.join(four, proof.equation(4, o, 1, opp(s(4)), s(3)), s(4))
     two = proof.join(three, proof.equation(3, o, 1, opp(s(3)), s(2)), s(3))
     not_zero = proof.join(two, proof.equation(2, o, 1, opp(s(2)), opp(s(0))), s(2))
-    proof.join(zero, not_zero, s(0))
+    return proof.join(zero, not_zero, s(0))
 
 
 def two_bands():
-    return at_one_offset(two_bands_part)
+    return at_each_offset(5, two_bands_part)
 
 
 def by_lemma(proof, prop, lemma, contrary, first, carry):
@@ -80,9 +92,9 @@ def by_lemma(proof, prop, lemma, contrary, first, carry):
         either = proof.equation(prop, j, 1, lit(prop, j), contrary(j))
         return proof.strike(either, proof.arithmetic(opp(lemma(j)), opp(contrary(j))), known)
 
-    fails = proof.property(0, *[opp(lit(prop, j)) for j in range(k)])
+    fails = proof.fails(prop)
     known = first()
-    for j in range(k):
+    for j in range(k + 1):
         known = carried(known, j) if j else known
         fails = proof.strike(fails, holds(known, j))
     proof.begin_step()
@@ -131,12 +143,14 @@ def countdown(depth):
 
 
 def grant():
-    def until_held(proof, o):
-        """Lines {not 7}, {not 2} and {3}: the grant must have been held, where no request was ever made."""
+    proof, s, t = Proof(1), at(0), at(1)
+
+    def until_held(o, *fails):
+        """Lines {not 7}, {not 2} and {3}: the grant must have been held, where no request was ever made. Without a line that the
+        property fails, the first and the last have the property too."""
         s = at(o)
-        fails = proof.property(o, opp(s(9)))
-        not_8 = proof.strike(fails, proof.equation(9, o, 0, s(9), opp(s(8))))
-        not_7 = proof.strike(fails, proof.equation(9, o, 1, s(9), opp(s(7))))
+        not_8 = proof.strike(proof.equation(9, o, 0, s(9), opp(s(8))), *fails)
+        not_7 = proof.strike(proof.equation(9, o, 1, s(9), opp(s(7))), *fails)
         five = proof.strike(not_8, proof.equation(8, o, 0, s(8), s(5)))
         not_0 = proof.strike(not_7, proof.equation(7, o, 0, s(7), opp(s(0))))
         not_2 = proof.equation(2, o, 0, opp(s(2)))
@@ -144,32 +158,37 @@ def grant():
         four = proof.strike(proof.equation(5, o, 2, s(1), opp(s(5)), s(4)), not_1, five)
         return not_7, not_2, proof.strike(proof.equation(4, o, 2, opp(s(4)), s(0), s(3)), four, not_0)
 
-    proof, s, t = Proof(1), at(0), at(1)
-    _, not_2, held = until_held(proof, 0)
-    proof.strike(proof.equation(3, 0, 0, opp(s(3)), s(2)), held, not_2)
+    def later(holds, *fails):
+        """That 9 holds at offset 1, from a line that it holds at 0."""
+        not_7, _, held = until_held(1, *fails)
+        granted = proof.strike(proof.equation(3, 1, 0, opp(t(3)), s(5)), held)
+        not_8 = proof.strike(proof.equation(8, 0, 1, opp(s(8)), opp(s(5))), granted)
+        ever = proof.strike(proof.equation(9, 0, 2, opp(s(9)), s(8), s(7)), holds, not_8)
+        before = proof.strike(proof.equation(6, 1, 1, t(6), opp(s(7))), ever)
+        return proof.strike(proof.equation(7, 1, 1, t(7), opp(t(6))), before, not_7)
+
+    fails = proof.fails(9)
+    _, not_2, held = until_held(0)
+    holds = proof.strike(proof.equation(3, 0, 0, opp(s(3)), s(2)), held, not_2)
+    proof.strike(fails, holds, later(holds))
     proof.begin_step()
-    not_7, _, held = until_held(proof, 1)
-    granted = proof.strike(proof.equation(3, 1, 0, opp(t(3)), s(5)), held)
-    assumed = proof.property(0, s(9))
-    not_8 = proof.strike(proof.equation(8, 0, 1, opp(s(8)), opp(s(5))), granted)
-    ever = proof.strike(proof.equation(9, 0, 2, opp(s(9)), s(8), s(7)), assumed, not_8)
-    before = proof.strike(proof.equation(6, 1, 1, t(6), opp(s(7))), ever)
-    proof.strike(proof.equation(7, 1, 1, t(7), opp(t(6))), before, not_7)
+    later(proof.property(0, s(9)), proof.property(1, opp(t(9))))
     return proof.certificate()
 
 
 def delayed():
+    def two_before():
+        """Lines that in place of 1 at offset 2 have it at 0."""
+        return (proof.equation(1, 2, 1, lit(1, 2), opp(lit(2, 1))), proof.equation(2, 1, 1, lit(2, 1), opp(lit(1))))
+
     proof = Proof(2)
-    proof.strike(proof.property(0, opp(lit(1)), opp(lit(1, 1))),
+    proof.strike(proof.fails(1), *two_before(),
                  proof.equation(1, 0, 1, lit(1), opp(lit(0))),
                  proof.equation(1, 1, 1, lit(1, 1), opp(lit(2))),
                  proof.equation(2, 0, 1, lit(2), opp(lit(0))),
                  proof.equation(0, 0, 0, lit(0)))
     proof.begin_step()
-    proof.strike(proof.property(2, opp(lit(1, 2))),
-                 proof.equation(1, 2, 1, lit(1, 2), opp(lit(2, 1))),
-                 proof.equation(2, 1, 1, lit(2, 1), opp(lit(1))),
-                 proof.property(0, lit(1)))
+    proof.strike(proof.property(2, opp(lit(1, 2))), *two_before(), proof.property(0, lit(1)))
     return proof.certificate()
 
 
@@ -181,18 +200,21 @@ def ring(low=56, high=63):
         """That the stream i below the highest is so because the next one was."""
         return proof.equation(high - i, offset, 1, lit(high - i, offset), opp(lit(high - i - 1, offset - 1)))
 
+    def around(line):
+        """In place of the highest at the last offset the line has it at 0."""
+        for i in range(size - 1):
+            line = proof.strike(line, taken(i, size - i))
+        return proof.strike(line, proof.equation(low, 1, 1, lit(low, 1), opp(lit(high))))
+
     proof = Proof(size)
-    line = proof.property(0, *[opp(lit(high, j)) for j in range(size)])
+    line = around(proof.fails(high))
     for j in range(size):
         for i in range(j):
             line = proof.strike(line, taken(i, j - i))
         line = proof.strike(line, proof.equation(high - j, 0, 1, lit(high - j), opp(lit(0))))
     proof.strike(line, proof.equation(0, 0, 0, lit(0)))
     proof.begin_step()
-    line = proof.property(size, opp(lit(high, size)))
-    for i in range(size - 1):
-        line = proof.strike(line, taken(i, size - i))
-    proof.strike(line, proof.equation(low, 1, 1, lit(low, 1), opp(lit(high))), proof.property(0, lit(high)))
+    proof.strike(around(proof.property(size, opp(lit(high, size)))), proof.property(0, lit(high)))
     return proof.certificate()
 
 
@@ -204,78 +226,76 @@ def first():
                 proof.equation(2, o, 0, opp(s(2)), s(1)), proof.equation(1, o, 0, opp(s(1))))
 
     proof, s = Proof(2), at(0)
-    proof.strike(proof.property(0, opp(s(5)), opp(lit(5, 1))), proof.equation(5, 0, 1, s(5), opp(s(3))),
-                 proof.equation(3, 0, 1, s(3), opp(s(0))), proof.equation(0, 0, 0, s(0)), *later(proof, 1))
+    proof.strike(proof.fails(5), proof.equation(5, 0, 1, s(5), opp(s(3))), proof.equation(3, 0, 1, s(3), opp(s(0))),
+                 proof.equation(0, 0, 0, s(0)), *later(proof, 1), *later(proof, 2))
     proof.begin_step()
     proof.strike(proof.property(2, opp(lit(5, 2))), *later(proof, 2))
     return proof.certificate()
 
 
 def double():
-    def prove(proof, o):
+    def prove(proof, o, fails):
         below, above = proof.at_most({(1, o): 1, (2, o): -1}, -1), proof.at_most({(2, o): 1, (1, o): -1}, -1)
         # 1 and 2 are each at most and at least twice 0
         bounds = [proof.at_most({(1, o): 1, (0, o): -2}, 0), proof.at_most({(0, o): 2, (1, o): -1}, 0),
                   proof.at_most({(2, o): 1, (0, o): -2}, 0), proof.at_most({(0, o): 2, (2, o): -1}, 0)]
-        differ = proof.strike(proof.property(o, opp(lit(3, o))), proof.equation(3, o, 2, lit(3, o), below, above))
-        proof.strike(differ, proof.arithmetic(opp(below), opp(bounds[1]), opp(bounds[2])),
-                     proof.arithmetic(opp(above), opp(bounds[3]), opp(bounds[0])),
-                     proof.equation(1, o, 0, bounds[0]), proof.equation(1, o, 1, bounds[1]),
-                     proof.equation(2, o, 0, bounds[2]), proof.equation(2, o, 1, bounds[3]))
+        differ = proof.strike(fails, proof.equation(3, o, 2, lit(3, o), below, above))
+        return proof.strike(differ, proof.arithmetic(opp(below), opp(bounds[1]), opp(bounds[2])),
+                            proof.arithmetic(opp(above), opp(bounds[3]), opp(bounds[0])),
+                            proof.equation(1, o, 0, bounds[0]), proof.equation(1, o, 1, bounds[1]),
+                            proof.equation(2, o, 0, bounds[2]), proof.equation(2, o, 1, bounds[3]))
 
-    return at_one_offset(prove)
+    return at_each_offset(3, prove)
 
 
 def successor():
-    def prove(proof, o):
+    def prove(proof, o, fails):
         s = at(o)
         under, over = proof.at_most({(0, o): 1, (2, o): -1}, 0), proof.at_most({(2, o): 1, (0, o): -1}, 0)
-        equal = proof.strike(proof.property(o, opp(s(4))), proof.equation(4, o, 0, s(4), s(3)))
+        equal = proof.strike(fails, proof.equation(4, o, 0, s(4), s(3)))
         proof.strike(proof.equation(3, o, 0, opp(s(3)), under), equal)
-        known = (proof.strike(proof.equation(3, o, 1, opp(s(3)), over), equal),
-                 proof.equation(2, o, 1, proof.at_most({(0, o): 1, (1, o): 1, (2, o): -1}, 0)),
-                 proof.equation(1, o, 1, proof.at_most({(1, o): -1}, -1)))
-        proof.strike(proof.arithmetic(*[opp(proof.lines[line].literals[0]) for line in known]), *known)
+        return proof.clash(proof.strike(proof.equation(3, o, 1, opp(s(3)), over), equal),
+                           proof.equation(2, o, 1, proof.at_most({(0, o): 1, (1, o): 1, (2, o): -1}, 0)),
+                           proof.equation(1, o, 1, proof.at_most({(1, o): -1}, -1)))
 
-    return at_one_offset(prove)
+    return at_each_offset(4, prove)
 
 
 def absolute():
-    def prove(proof, o):
+    def prove(proof, o, fails):
         s = at(o)
         negative = proof.at_most({(4, o): 1, (1, o): -1}, -1)
-        fails = proof.strike(proof.property(o, opp(s(5))), proof.equation(5, o, 1, s(5), negative))
+        fails = proof.strike(fails, proof.equation(5, o, 1, s(5), negative))
         same, least = proof.at_most({(0, o): 1, (4, o): -1}, 0), proof.at_most({(1, o): 1, (0, o): -1}, 0)
         not_2 = proof.strike(proof.arithmetic(opp(negative), opp(same), opp(least)), fails,
                              proof.equation(4, o, 1, opp(s(2)), same), proof.equation(2, o, 0, opp(s(2)), least))
         other, less = proof.at_most({(3, o): 1, (4, o): -1}, 0), proof.at_most({(0, o): 1, (1, o): -1}, -1)
         minus, zero = proof.at_most({(1, o): 1, (0, o): -1, (3, o): -1}, 0), proof.at_most({(1, o): 1}, 0)
-        proof.strike(proof.arithmetic(opp(negative), opp(other), opp(less), opp(minus), opp(zero)), fails,
-                     proof.equation(4, o, 3, s(2), other), proof.equation(2, o, 1, s(2), less),
-                     proof.equation(3, o, 1, minus), proof.equation(1, o, 0, zero), not_2)
+        return proof.strike(proof.arithmetic(opp(negative), opp(other), opp(less), opp(minus), opp(zero)), fails,
+                            proof.equation(4, o, 3, s(2), other), proof.equation(2, o, 1, s(2), less),
+                            proof.equation(3, o, 1, minus), proof.equation(1, o, 0, zero), not_2)
 
-    return at_one_offset(prove)
+    return at_each_offset(5, prove)
 
 
-def itself_part(proof, o):
+def itself_part(proof, o, fails):
     """The constraint "0 < 0" has no terms and bound -1."""
     never = proof.at_most({}, -1)
-    proof.strike(proof.property(o, opp(lit(1, o))), proof.equation(1, o, 1, lit(1, o), never), proof.arithmetic(opp(never)))
+    return proof.strike(fails, proof.equation(1, o, 1, lit(1, o), never), proof.arithmetic(opp(never)))
 
 
 def itself():
-    return at_one_offset(itself_part)
+    return at_each_offset(1, itself_part)
 
 
 def mirror():
     """Its clauses repeat a literal, and so do the lines that join them."""
-    def prove(proof, o):
+    def prove(proof, o, fails):
         s = at(o)
-        fails = proof.property(o, opp(s(1)))
         either, neither = proof.equation(1, o, 2, s(1), s(0), s(0)), proof.equation(1, o, 3, s(1), opp(s(0)), opp(s(0)))
-        proof.join(proof.join(fails, either, opp(s(1)), s(0)), proof.join(fails, neither, opp(s(1)), opp(s(0))), s(0))
+        return proof.join(proof.join(fails, either, opp(s(1)), s(0)), proof.join(fails, neither, opp(s(1)), opp(s(0))), s(0))
 
-    return at_one_offset(prove)
+    return at_each_offset(1, prove)
 
 
 def every_clause(proof, o, first):
@@ -315,17 +335,18 @@ def every_clause(proof, o, first):
     }
     if first:
         clauses |= {15: as_bool(15, s(2)), 16: same(n(16), n(3)), 17: as_bool(17, s(2)), 18: same(n(18), n(3))}
-    elif o > 0:
-        clauses |= {15: as_bool(15, s(13)), 16: same(n(16), n(14)),
-                    17: as_bool(17, lit(17, o - 1)), 18: same(n(18), (19, o - 1))}
+    else:
+        clauses |= {15: as_bool(15, s(13)), 16: same(n(16), n(14))}
+    if o > 0:
+        clauses |= {17: as_bool(17, lit(17, o - 1)), 18: same(n(18), (19, o - 1))}
     return {(p, r): proof.equation(p, o, r, *literals) for p, listed in clauses.items() for r, literals in enumerate(listed)}
 
 
 def all_operators():
     """Every clause there is at depth 2; only a few are needed."""
     proof = Proof(2)
-    now, later = every_clause(proof, 0, True), every_clause(proof, 1, False)
-    proof.strike(proof.property(0, opp(lit(17)), opp(lit(17, 1))), later[17, 1], now[17, 1], now[2, 0])
+    now, later, last = (every_clause(proof, o, o == 0) for o in range(3))
+    proof.strike(proof.fails(17), last[17, 1], later[17, 1], now[17, 1], now[2, 0])
     proof.begin_step()
     every_clause(proof, 0, False)
     every_clause(proof, 1, False)

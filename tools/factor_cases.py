@@ -122,12 +122,12 @@ def every_factor(proof, o, s, clauses, factors):
 
 
 def whole(base=None, step=None, depth=1):
-    """What these two add to a part, and then its proof: three lines, and in the base two more for each offset more."""
+    """What these two add to a part, and then its proof: in the base one line and two for each offset, in the step three lines."""
     proof = Proof(depth)
     if base:
         base(proof)
-    fails = proof.property(0, *[opp(lit(0, o)) for o in range(depth)])
-    for o in range(depth):
+    fails = proof.fails(0)
+    for o in range(depth + 1):
         fails = proof.strike(fails, proof.equation(0, o, 0, lit(0, o)))
     proof.begin_step()
     if step:
@@ -137,49 +137,59 @@ def whole(base=None, step=None, depth=1):
 
 
 def of_streams(*streams, factors=None):
-    """Every clause of the streams by each of their factors, at instant 0 and at a later offset."""
-    def lines(o, clauses):
-        return lambda proof: [every_factor(proof, o, s, clauses[s], factors or FACTORS[s]) for s in streams]
+    """Every clause of the streams by each of their factors, at offsets 0 and 1 of each part; a pre has none at step offset 0."""
+    def lines(*clauses):
+        def add(proof):
+            for o, listed in enumerate(clauses):
+                for s in streams:
+                    every_factor(proof, o, s, listed.get(s, ()), factors or FACTORS[s])
 
-    return whole(lines(0, CLAUSES | AT_INSTANT_0), lines(1, CLAUSES | LATER))
+        return add
+
+    later = CLAUSES | LATER
+    return whole(lines(CLAUSES | AT_INSTANT_0, later), lines(CLAUSES | {"arrow": LATER["arrow"]}, later))
 
 
 def right():
-    """Certificates, and how many lines each part has: one for each clause and factor, and three."""
+    """Certificates, and how many lines each part has: one for each clause and factor at each offset, and five or three."""
     return {
-        "constants": (of_streams("hundred", "minus-hundred"), 19), "greatest-constants": (of_streams("greatest", "least"), 19),
-        "zeros": (of_streams("zero", "nothing", "zerofold"), 27),
-        "sum": (of_streams("sum"), 11), "difference": (of_streams("difference"), 11), "twice": (of_streams("twice"), 11),
-        "multiples": (of_streams("triple", "minus-triple"), 19), "thousandfold": (of_streams("thousandfold"), 11),
-        "greatest-multiples": (of_streams("greatest-multiple", "least-multiple"), 7),
-        "at-most": (of_streams("at-most"), 11), "at-least": (of_streams("at-least"), 11), "equal": (of_streams("equal"), 15),
-        "if": (of_streams("if"), 19), "arrow": (of_streams("arrow"), 11), "pre": (of_streams("pre"), 11),
-        "pre-of-others": (of_streams("pre-higher", "pre-itself"), 19),
-        "at-most-itself": (of_streams("at-most-itself"), 11), "equal-to-itself": (of_streams("equal-to-itself"), 15),
-        "lesser": (of_streams("lesser"), 15), "greater": (of_streams("greater"), 15),
-        "of-one-operand": (of_streams("lesser-of-one", "greater-of-one"), 27),
+        "constants": (of_streams("hundred", "minus-hundred"), 37, 35),
+        "greatest-constants": (of_streams("greatest", "least"), 37, 35),
+        "zeros": (of_streams("zero", "nothing", "zerofold"), 53, 51),
+        "sum": (of_streams("sum"), 21, 19), "difference": (of_streams("difference"), 21, 19),
+        "twice": (of_streams("twice"), 21, 19),
+        "multiples": (of_streams("triple", "minus-triple"), 37, 35), "thousandfold": (of_streams("thousandfold"), 21, 19),
+        "greatest-multiples": (of_streams("greatest-multiple", "least-multiple"), 13, 11),
+        "at-most": (of_streams("at-most"), 21, 19), "at-least": (of_streams("at-least"), 21, 19),
+        "equal": (of_streams("equal"), 29, 27), "if": (of_streams("if"), 37, 35), "arrow": (of_streams("arrow"), 21, 19),
+        "pre": (of_streams("pre"), 21, 11), "pre-of-others": (of_streams("pre-higher", "pre-itself"), 37, 19),
+        "at-most-itself": (of_streams("at-most-itself"), 21, 19), "equal-to-itself": (of_streams("equal-to-itself"), 29, 27),
+        "lesser": (of_streams("lesser"), 29, 27), "greater": (of_streams("greater"), 29, 27),
+        "of-one-operand": (of_streams("lesser-of-one", "greater-of-one"), 53, 51),
         # factors past 32 bits, of which one is 0 in 32, and one below the greatest
-        "past-32-bits": (of_streams("at-most-itself", factors=(1 << 31, 1 << 32, (1 << 32) + 1, BOUND - 1)), 11),
+        "past-32-bits": (of_streams("at-most-itself", factors=(1 << 31, 1 << 32, (1 << 32) + 1, BOUND - 1)), 21, 19),
     }
 
 
 def of_depth_2():
-    """Later clauses of operators 12 and 13, in the base and in the step: four streams, two clauses, two factors."""
-    def lines(o):
-        return lambda proof: [every_factor(proof, o, s, clauses, (2, COEFFICIENT)) for s, clauses in LATER.items()]
+    """Later clauses of operators 12 and 13, at offsets 1 and 2 of each part: four streams, two clauses, two factors."""
+    def lines(proof):
+        for o in (1, 2):
+            for s, clauses in LATER.items():
+                every_factor(proof, o, s, clauses, (2, COEFFICIENT))
 
-    return whole(lines(1), lines(2), 2)
+    return whole(lines, lines, 2)
 
 
 def going_on():
-    """Lines 0 to 5 are the proof alone; the next is 6, of the step."""
+    """Lines 0 to 7 are the proof alone; the next is 8, of the step."""
     proof = Proof(1)
-    proof.lines, proof.base = whole().lines, 3
+    proof.lines, proof.base = whole().lines, 5
     return proof
 
 
 def after(o, *lines):
-    """With these equation lines at an offset of the step, from line 6 on."""
+    """With these equation lines at an offset of the step, from line 8 on."""
     proof = going_on()
     for line in lines:
         equation(proof, o, *line)
@@ -295,35 +305,35 @@ def past_limits():
 
 
 def of_sum(*factors):
-    """A certificate to go on with, and the literals of s - a - b at most 0 times these factors; line 6 says the first of them."""
+    """A certificate to go on with, and the literals of s - a - b at most 0 times these factors; line 8 says the first of them."""
     proof = going_on()
     literals = [literal(proof, 1, times(factor, {"sum": 1, "a": -1, "b": -1}, 0)) for factor in factors]
     return proof, proof.equation(STREAMS["sum"], 1, 0, literals[0]), *literals
 
 
 def by_arithmetic(*multipliers):
-    """From {2s - 2a - 2b at most 0}, by line 7 of kind 4 and a join: {s - a - b at most 0}."""
+    """From {2s - 2a - 2b at most 0}, by line 9 of kind 4 and a join: {s - a - b at most 0}."""
     proof, said, two, one = of_sum(2, 1)
     proof.strike(proof.arithmetic(opp(two), one, times=multipliers), said)
     return proof.certificate()
 
 
 def by_cut(factor, r):
-    """From {2s - 2a - 2b at most 0}, by line 7 of kind 5 and a join: the factor times s - a - b at most 0."""
+    """From {2s - 2a - 2b at most 0}, by line 9 of kind 5 and a join: the factor times s - a - b at most 0."""
     proof, said, two, last = of_sum(2, factor)
     proof.cut([said], last, r)
     return proof.certificate()
 
 
 def joined(factor):
-    """{2s - 2a - 2b at most 0} and line 7, {not c, c}, joined by line 8 to {c}; c is the factor times s - a - b at most 0."""
+    """{2s - 2a - 2b at most 0} and line 9, {not c, c}, joined by line 10 to {c}; c is the factor times s - a - b at most 0."""
     proof, said, two, other = of_sum(2, factor)
     proof.add(3, (other,), p=said, q=proof.arithmetic(opp(other), other), r=two)
     return proof.certificate()
 
 
 def left_by_join(factor):
-    """Lines 6 and 7, the first clauses of both branches, each doubled, joined on c. Line 8 has the first with the factor."""
+    """Lines 8 and 9, the first clauses of both branches, each doubled, joined on c. Line 10 has the first with the factor."""
     proof = going_on()
     first, second, said = [literal(proof, 1, times(n, *most("if", x))) for n, x in ((2, "a"), (2, "b"), (factor, "a"))]
     c = literal(proof, 1, "c")
@@ -333,7 +343,7 @@ def left_by_join(factor):
 
 
 def in_property():
-    """Line 7 is the property's, but for its literal."""
+    """Line 9 is the property's, but for its literal."""
     proof, _, two = of_sum(2)
     proof.property(1, two)
     return proof.certificate()

@@ -1,7 +1,7 @@
 """A node for the flight list, whose counters lesser and greater hold at both ends, with its table of ranges and a whole
 certificate; and a twin that holds one of them too high, with a table that is too small by one and a forged certificate."""
 from certificate_files import Proof, lit, opp
-from example_proofs import NUMBER, at
+from example_proofs import NUMBER
 from node_files import BOOL, INT, node, rec, replaced
 
 # 0 are the minutes asked for, or handed back where they are negative; 6 is what of them counts at once: from 2, which is -30, to
@@ -45,11 +45,11 @@ def flight_list(free_is_capped=by_cases_of(1)):
     def most(x, y, bound=0):
         return proof.at_most({x: 1, y: -1}, bound)
 
-    def part(o, carried):
-        """`carried` gives lines whose sum, with that 1 is at most 0 at instant 0, is that 7 plus 11 is at most 4 at this offset."""
-        s = at(o)
-        fails = proof.strike(proof.equation(16, o, 1, s(16), most((4, o), (15, o), -1)), proof.property(o, opp(s(16))))
-        over = (fails, proof.equation(15, o, 0, proof.at_most({(15, o): 1, (10, o): -1, (14, o): -1}, 0)))
+    def part(o, carried, *fails):
+        """That 16 holds at this offset. `carried` gives lines whose sum, with that 1 is at most 0 at instant 0, is that 7 plus 11
+        is at most 4 there."""
+        more = proof.strike(proof.equation(16, o, 1, lit(16, o), most((4, o), (15, o), -1)), *fails)
+        over = (more, proof.equation(15, o, 0, proof.at_most({(15, o): 1, (10, o): -1, (14, o): -1}, 0)))
         zero = proof.equation(1, o, 0, proof.at_most({(1, o): 1}, 0))
         free = free_is_capped(proof, o, (*over, zero))
         # 9 is at most 8: else 10, at most 0, and 14, at most 4, are not over 4
@@ -61,18 +61,25 @@ def flight_list(free_is_capped=by_cases_of(1)):
         # 6 goes to the one and from the other
         before = carried(zero)
         both = proof.arithmetic(proof.at_most({(7, o): 1, (11, o): 1, (4, o): -1}, 0), *proof.against(before))
-        proof.clash(*over, free, raised, booked, proof.strike(both, *before),
-                    proof.equation(8, o, 0, proof.at_most({(8, o): 1, (7, o): -1, (6, o): -1}, 0)),
-                    proof.equation(13, o, 0, most((13, o), (12, o))),
-                    proof.equation(12, o, 0, proof.at_most({(12, o): 1, (11, o): -1, (6, o): 1}, 0)))
+        return proof.clash(*over, free, raised, booked, proof.strike(both, *before),
+                           proof.equation(8, o, 0, proof.at_most({(8, o): 1, (7, o): -1, (6, o): -1}, 0)),
+                           proof.equation(13, o, 0, most((13, o), (12, o))),
+                           proof.equation(12, o, 0, proof.at_most({(12, o): 1, (11, o): -1, (6, o): 1}, 0)))
 
-    part(0, lambda zero: (zero, proof.equation(7, 0, 0, most((7, 0), (1, 0))), proof.equation(11, 0, 0, most((11, 0), (4, 0)))))
+    def later(holds, *fails):
+        return part(1, lambda _: (
+            proof.equation(7, 1, 0, most((7, 1), (10, 0))), proof.equation(11, 1, 0, most((11, 1), (14, 0))),
+            proof.equation(15, 0, 1, proof.at_most({(10, 0): 1, (14, 0): 1, (15, 0): -1}, 0)),
+            proof.strike(proof.equation(16, 0, 0, opp(lit(16)), most((15, 0), (4, 0))), holds),
+            proof.equation(4, 0, 0, proof.at_most({(4, 0): 1}, 90)),
+            proof.equation(4, 1, 1, proof.at_most({(4, 1): -1}, -90))), *fails)
+
+    fails = proof.fails(16)
+    holds = part(0, lambda zero: (zero, proof.equation(7, 0, 0, most((7, 0), (1, 0))),
+                                  proof.equation(11, 0, 0, most((11, 0), (4, 0)))))
+    proof.strike(fails, holds, later(holds))
     proof.begin_step()
-    part(1, lambda _: (proof.equation(7, 1, 0, most((7, 1), (10, 0))), proof.equation(11, 1, 0, most((11, 1), (14, 0))),
-                       proof.equation(15, 0, 1, proof.at_most({(10, 0): 1, (14, 0): 1, (15, 0): -1}, 0)),
-                       proof.strike(proof.equation(16, 0, 0, opp(lit(16)), most((15, 0), (4, 0))), proof.property(0, lit(16))),
-                       proof.equation(4, 0, 0, proof.at_most({(4, 0): 1}, 90)),
-                       proof.equation(4, 1, 1, proof.at_most({(4, 1): -1}, -90))))
+    later(proof.property(0, lit(16)), proof.property(1, opp(lit(16, 1))))
     return proof.certificate()
 
 

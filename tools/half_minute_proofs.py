@@ -28,12 +28,13 @@ def half_minutes(length=120, minute=MINUTE, slot=SLOT, slots=120):
         """x is at most so many times y."""
         return proof.at_most({x: unit, y: -unit * times}, bound)
 
-    def part(o, carried, times):
-        """`carried` gives lines whose sum, with these multipliers, is that twice 4 is at most `length` at this offset."""
+    def part(o, carried, times, *fails):
+        """That 10 holds at this offset. `carried` gives lines whose sum, with these multipliers, is that twice 4 is at most
+        `length` there."""
         s = at(o)
-        fails = proof.strike(proof.equation(10, o, 1, s(10), most((9, o), (8, o), bound=-1)), proof.property(o, opp(s(10))))
+        more = proof.strike(proof.equation(10, o, 1, s(10), most((9, o), (8, o), bound=-1)), *fails)
         # twice 7 is over `length`
-        over = (fails, proof.equation(8, o, 0, most((8, o), (7, o), times=2)),
+        over = (more, proof.equation(8, o, 0, most((8, o), (7, o), times=2)),
                 proof.equation(9, o, 1, proof.at_most({(9, o): -1}, -length)))
         not_6 = proof.clash(*over, proof.equation(7, o, 0, opp(s(6)), most((7, o), (5, o), minute)),
                             proof.equation(6, o, 0, opp(s(6)), most((5, o), (3, o), minute)),
@@ -42,15 +43,21 @@ def half_minutes(length=120, minute=MINUTE, slot=SLOT, slots=120):
                             times=(1, 1, 1, by_minute, by_minute, by_minute, by_slot))
         six = proof.clash(*over, proof.equation(7, o, 2, s(6), most((7, o), (4, o), minute)), *carried(),
                           times=(1, 1, 1, by_minute, *times))
-        proof.strike(six, not_6)
+        return proof.strike(six, not_6)
 
-    part(0, lambda: (proof.equation(4, 0, 0, most((4, 0), (1, 0), minute)),
-                     proof.equation(1, 0, 0, proof.at_most({(1, 0): minute}, 0))), (by_minute, by_minute))
+    def later(holds, *fails):
+        return part(1, lambda: (
+            proof.equation(4, 1, 0, most((4, 1), (7, 0), minute)),
+            proof.equation(8, 0, 1, proof.at_most({(7, 0): 2, (8, 0): -1}, 0)),
+            proof.strike(proof.equation(10, 0, 0, opp(lit(10)), most((8, 0), (9, 0))), holds),
+            proof.equation(9, 0, 0, proof.at_most({(9, 0): 1}, length))), (by_minute, 1, 1, 1), *fails)
+
+    fails = proof.fails(10)
+    holds = part(0, lambda: (proof.equation(4, 0, 0, most((4, 0), (1, 0), minute)),
+                             proof.equation(1, 0, 0, proof.at_most({(1, 0): minute}, 0))), (by_minute, by_minute))
+    proof.strike(fails, holds, later(holds))
     proof.begin_step()
-    part(1, lambda: (proof.equation(4, 1, 0, most((4, 1), (7, 0), minute)),
-                     proof.equation(8, 0, 1, proof.at_most({(7, 0): 2, (8, 0): -1}, 0)),
-                     proof.strike(proof.equation(10, 0, 0, opp(lit(10)), most((8, 0), (9, 0))), proof.property(0, lit(10))),
-                     proof.equation(9, 0, 0, proof.at_most({(9, 0): 1}, length))), (by_minute, 1, 1, 1))
+    later(proof.property(0, lit(10)), proof.property(1, opp(lit(10, 1))))
     return proof.certificate()
 
 

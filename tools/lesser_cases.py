@@ -3,9 +3,9 @@
 Which lines match is written down from the published rules and not computed by any checker.
 """
 import factor_cases
-from certificate_files import COEFFICIENT, Proof, opp
-from example_proofs import NUMBER, at, at_one_offset
-from factor_cases import CLAUSES, STREAMS, equation, every_factor, times, whole
+from certificate_files import COEFFICIENT, Proof, lit, opp
+from example_proofs import NUMBER, at, at_each_offset
+from factor_cases import CLAUSES, STREAMS, every_factor, times, whole
 from node_files import BOOL, INT, node, rec
 
 # streams of the node of factor cases
@@ -41,25 +41,24 @@ def against(proof, literals, *lines):
     return proof.strike(proof.arithmetic(*map(opp, literals), *proof.against(lines)), *lines)
 
 
-def fails_by(proof, o, prop, x, y):
-    """A line {y < x}: the property, which is that x is at most y, fails."""
-    s = at(o)
-    return proof.strike(proof.equation(prop, o, 1, s(prop), most(proof, o, y, x, -1)), proof.property(o, opp(s(prop))))
+def fails_by(proof, o, prop, x, y, *fails):
+    """A line {y < x}: the property, that x is at most y, fails, as a line says. Without such a line it has the property too."""
+    return proof.strike(proof.equation(prop, o, 1, lit(prop, o), most(proof, o, y, x, -1)), *fails)
 
 
 def lesser_at_most():
     """By clause 0 of each: the lesser is at most 0, and that at most the greater."""
-    def prove(proof, o):
-        proof.clash(fails_by(proof, o, 4, 2, 3), proof.equation(2, o, 0, most(proof, o, 2, 0)),
-                    proof.equation(3, o, 0, most(proof, o, 0, 3)))
+    def prove(proof, o, fails):
+        return proof.clash(fails_by(proof, o, 4, 2, 3, fails), proof.equation(2, o, 0, most(proof, o, 2, 0)),
+                           proof.equation(3, o, 0, most(proof, o, 0, 3)))
 
-    return at_one_offset(prove)
+    return at_each_offset(4, prove)
 
 
 def lesser_and_greater():
     """All six clauses. If the sum is less than that of the operands, both are over the lesser, for the greater is at least the
     other one; and if it is more, both are under the greater."""
-    def prove(proof, o):
+    def prove(proof, o, fails):
         s = at(o)
 
         def said(p, r, x, y):
@@ -70,7 +69,7 @@ def lesser_and_greater():
             return proof.equation(p, o, r, proof.at_most({(p, o): sign, (x, o): -sign, (y, o): -sign}, 0))
 
         under, over = most(proof, o, 4, 5, -1), most(proof, o, 5, 4, -1)
-        either = proof.strike(proof.equation(6, o, 2, s(6), under, over), proof.property(o, opp(s(6))))
+        either = proof.strike(proof.equation(6, o, 2, s(6), under, over), fails)
         sums = total(4, 1, 2, 3), total(5, 0, 0, 1)
         zero, one = most(proof, o, 0, 2), most(proof, o, 1, 2)
         not_under = proof.strike(proof.equation(2, o, 2, zero, one), against(proof, (under, zero), *sums, said(3, 1, 1, 3)),
@@ -79,14 +78,14 @@ def lesser_and_greater():
         zero, one = most(proof, o, 3, 0), most(proof, o, 3, 1)
         not_over = proof.strike(proof.equation(3, o, 2, zero, one), against(proof, (over, zero), *sums, said(2, 1, 2, 1)),
                                 against(proof, (over, one), *sums, said(2, 0, 2, 0)))
-        proof.strike(either, not_under, not_over)
+        return proof.strike(either, not_under, not_over)
 
-    return at_one_offset(prove)
+    return at_each_offset(6, prove)
 
 
 def lesser_of_one():
     """Clause 2 of each has one constraint twice."""
-    def prove(proof, o):
+    def prove(proof, o, fails):
         s = at(o)
         under, over = most(proof, o, 1, 2, -1), most(proof, o, 2, 1, -1)
         least, greatest = most(proof, o, 0, 1), most(proof, o, 2, 0)
@@ -94,62 +93,79 @@ def lesser_of_one():
                                  proof.equation(2, o, 2, greatest, greatest))
         not_over = against(proof, (over,), proof.equation(1, o, 1, most(proof, o, 1, 0)),
                            proof.equation(2, o, 0, most(proof, o, 0, 2)))
-        proof.strike(proof.equation(3, o, 2, s(3), under, over), proof.property(o, opp(s(3))), not_under, not_over)
+        return proof.strike(proof.equation(3, o, 2, s(3), under, over), fails, not_under, not_over)
 
-    return at_one_offset(prove)
+    return at_each_offset(3, prove)
 
 
 def absolute_by_greater():
     """Clauses 0 and 1 of the greater add up: twice it is at least the sum of a number and its negation."""
-    def prove(proof, o):
-        proof.clash(fails_by(proof, o, 4, 3, 2), proof.equation(2, o, 0, most(proof, o, 0, 2)),
-                    proof.equation(2, o, 1, most(proof, o, 1, 2)),
-                    proof.equation(1, o, 1, proof.at_most({(0, o): -1, (1, o): -1}, 0)),
-                    proof.equation(3, o, 0, proof.at_most({(3, o): 1}, 0)), times=(2, 1, 1, 1, 2))
+    def prove(proof, o, fails):
+        return proof.clash(fails_by(proof, o, 4, 3, 2, fails), proof.equation(2, o, 0, most(proof, o, 0, 2)),
+                           proof.equation(2, o, 1, most(proof, o, 1, 2)),
+                           proof.equation(1, o, 1, proof.at_most({(0, o): -1, (1, o): -1}, 0)),
+                           proof.equation(3, o, 0, proof.at_most({(3, o): 1}, 0)), times=(2, 1, 1, 1, 2))
 
-    return at_one_offset(prove)
+    return at_each_offset(4, prove)
 
 
 def least_so_far():
     """Clause 0 of the lesser at instant 0, clause 1 later."""
     proof = Proof(1)
-    proof.clash(fails_by(proof, 0, 4, 2, 3), proof.equation(2, 0, 0, most(proof, 0, 2, 0)),
-                proof.equation(3, 0, 1, most(proof, 0, 0, 3)))
+
+    def later(holds, *fails):
+        held = proof.strike(proof.equation(4, 0, 0, opp(lit(4)), most(proof, 0, 2, 3)), holds)
+        return proof.clash(fails_by(proof, 1, 4, 2, 3, *fails), proof.equation(2, 1, 1, most(proof, 1, 2, 1)),
+                           proof.equation(1, 1, 0, proof.at_most({(1, 1): 1, (2, 0): -1}, 0)), held,
+                           proof.equation(3, 1, 1, proof.at_most({(3, 0): 1, (3, 1): -1}, 0)))
+
+    fails = proof.fails(4)
+    holds = proof.clash(fails_by(proof, 0, 4, 2, 3), proof.equation(2, 0, 0, most(proof, 0, 2, 0)),
+                        proof.equation(3, 0, 1, most(proof, 0, 0, 3)))
+    proof.strike(fails, holds, later(holds))
     proof.begin_step()
-    held = proof.strike(proof.equation(4, 0, 0, opp(at(0)(4)), most(proof, 0, 2, 3)), proof.property(0, at(0)(4)))
-    proof.clash(fails_by(proof, 1, 4, 2, 3), proof.equation(2, 1, 1, most(proof, 1, 2, 1)),
-                proof.equation(1, 1, 0, proof.at_most({(1, 1): 1, (2, 0): -1}, 0)), held,
-                proof.equation(3, 1, 1, proof.at_most({(3, 0): 1, (3, 1): -1}, 0)))
+    later(proof.property(0, lit(4)), proof.property(1, opp(lit(4, 1))))
     return proof.certificate()
 
 
 def by_one_line(prop, x, y, r):
     """That x is at most y, by line 3 alone, which says so as clause r of the lesser or the greater among them."""
-    def prove(proof, o):
-        proof.clash(fails_by(proof, o, prop, x, y), proof.equation(max(x, y), o, r, most(proof, o, x, y)))
+    def prove(proof, o, fails):
+        return proof.clash(fails_by(proof, o, prop, x, y, fails), proof.equation(max(x, y), o, r, most(proof, o, x, y)))
 
-    return at_one_offset(prove)
+    return at_each_offset(prop, prove)
 
 
-def by_strict_clause(proof, o):
-    """{5, 4}, {not 5}, {4}, {not 4, 0 at most 2}, {0 at most 2}; then, as clause 0 of the lesser, that 2 is less than 0: line 5."""
+def by_strict_clause(proof, o, fails):
+    """{5, 4}, {4}, {not 4, 0 at most 2}, {0 at most 2}; then, as clause 0 of the lesser, that 2 is less than 0: line 5."""
     s = at(o)
-    four = proof.strike(proof.equation(5, o, 0, s(5), s(4)), proof.property(o, opp(s(5))))
-    proof.clash(proof.strike(proof.equation(4, o, 0, opp(s(4)), most(proof, o, 0, 2)), four),
-                proof.equation(2, o, 0, most(proof, o, 2, 0, -1)))
+    four = proof.strike(proof.equation(5, o, 0, s(5), s(4)), fails)
+    return proof.clash(proof.strike(proof.equation(4, o, 0, opp(s(4)), most(proof, o, 0, 2)), four),
+                       proof.equation(2, o, 0, most(proof, o, 2, 0, -1)))
 
 
-def first_case(proof, o):
-    """Of clause 2 of the lesser, line 3, the first literal is refuted: {1 at most 2}, the last line, is left."""
-    fails = fails_by(proof, o, 4, 0, 2)
+def by_cases(proof, o, *fails):
+    """Of clause 2 of the lesser the first literal is refuted: {2 less than 0} and {1 at most 2}, the last line, are left."""
+    over = fails_by(proof, o, 4, 0, 2, *fails)
     zero, one = most(proof, o, 0, 2), most(proof, o, 1, 2)
-    return fails, proof.strike(proof.equation(2, o, 2, zero, one), against(proof, (zero,), fails))
+    return over, proof.strike(proof.equation(2, o, 2, zero, one), against(proof, (zero,), over))
 
 
-def both_cases(proof, o):
-    """And then the second one, by line 7, as if 0 stood there: 2 may be less than 0 and 1 at most 2."""
-    fails, one = first_case(proof, o)
-    proof.clash(fails, one)
+def first_case():
+    """The last line of the base is {1 at most 2 at 0, 1 at most 2 at 1}, and that of the step its second half."""
+    proof = Proof(1)
+    proof.strike(proof.fails(4), *[by_cases(proof, o)[1] for o in (0, 1)])
+    proof.begin_step()
+    by_cases(proof, 1, proof.property(1, opp(lit(4, 1))))
+    return proof.certificate()
+
+
+def both_cases():
+    """The second one too, by line 7, as if 0 stood there: 2 may be less than 0 and 1 at most 2."""
+    def prove(proof, o, fails):
+        return proof.clash(*by_cases(proof, o, fails))
+
+    return at_each_offset(4, prove)
 
 
 def forged():
@@ -162,16 +178,18 @@ def forged():
         "literal-missing-of-greater": ("at-least-greater", by_one_line(4, 3, 0, 2), 3),
         "sides-swapped-of-greater": ("at-least-greater", by_one_line(4, 3, 0, 0), 3),
         "clause-3-of-greater": ("at-least-greater", by_one_line(4, 3, 0, 3), 3),
-        "strict": ("under-lesser", at_one_offset(by_strict_clause), 5),
+        "strict": ("under-lesser", at_each_offset(5, by_strict_clause), 5),
     }
 
 
 def everywhere():
-    """Every clause twice at each offset, of depth 2: at 0 and 1 in the base, at 0 to 2 in the step."""
-    def lines(*offsets):
-        return lambda proof: [every_factor(proof, o, s, CLAUSES[s], (1, COEFFICIENT)) for o in offsets for s in OF_THESE]
+    """Every clause twice at each offset, of depth 2: at 0 to 2 in the base and in the step."""
+    def lines(proof):
+        for o in range(3):
+            for s in OF_THESE:
+                every_factor(proof, o, s, CLAUSES[s], (1, COEFFICIENT))
 
-    return whole(lines(0, 1), lines(0, 1, 2), 2)
+    return whole(lines, lines, 2)
 
 
 def near(s, mirror):
@@ -230,13 +248,18 @@ def wrong():
     return lines
 
 
-def in_base_at_depth():
-    """The first clause of the lesser at offset k, which the base doesn't have: line 0."""
-    return whole(lambda proof: equation(proof, 1, "lesser", 0, *CLAUSES["lesser"][0]))
+def past_depth(proof, s):
+    """The first clause of a stream at offset 1, said to be at 2."""
+    proof.equation(STREAMS[s], 2, 0, factor_cases.literal(proof, 1, CLAUSES[s][0][0]))
 
 
-def past_depth():
-    """The first clause of the greater at offset 1, said to be at 2: line 6."""
+def past_depth_in_base():
+    """Line 0."""
+    return whole(lambda proof: past_depth(proof, "lesser"))
+
+
+def past_depth_in_step():
+    """Line 8."""
     proof = factor_cases.going_on()
-    proof.equation(STREAMS["greater"], 2, 0, factor_cases.literal(proof, 1, CLAUSES["greater"][0][0]))
+    past_depth(proof, "greater")
     return proof.certificate()

@@ -16,11 +16,14 @@ import flight_proofs
 import half_minute_proofs
 import order_proofs
 import parity_proofs
+import set_up_proofs
+from archived_files import archived_file
 from certificate_files import Certificate
 from node_files import ROOT, node, table
 
 NODES = {**example_proofs.NODES, **booking_proofs.NODES, **parity_proofs.NODES, **half_minute_proofs.NODES, **order_proofs.NODES,
-         **flight_proofs.NODES, "forged": node(booking_proofs.LATE, 3)}
+         **flight_proofs.NODES, **set_up_proofs.NODES, "forged": node(booking_proofs.LATE, 3),
+         "archived-two-bands": example_proofs.NODES["two-bands"]}
 TYPES = ("bool", "int")
 # by operator
 EQUATIONS = ("input", "{k}", "not {a}", "{a} and {b}", "{a} or {b}", "{a} same as {b}", "{a} + {b}", "{a} - {b}", "{k} * {a}",
@@ -30,8 +33,9 @@ EQUATIONS = ("input", "{k}", "not {a}", "{a} and {b}", "{a} or {b}", "{a} same a
 
 @dataclass(frozen=True)
 class Example:
-    """Streams are names and what they are, in record order. The texts are those of the folder's page. Rows on lines are those of
-    the base, those of the step and what they say. Ranges are those of the table, where there is one; `ranges_say` is on them."""
+    """Streams are names and what they are, in record order. The texts are those of the folder's page. An archived certificate is
+    its bytes. Rows on lines are those of the base's offsets 0 and 1, those of the step and what they say. Ranges are those of the
+    table, where there is one; `ranges_say` is on them."""
     name: str
     title: str
     books: str
@@ -39,7 +43,7 @@ class Example:
     prop: str
     depth: str
     argument: str
-    certificate: Certificate
+    certificate: Certificate | bytes
     verdict: str
     lines: tuple = ()
     aside: str = ""
@@ -64,7 +68,11 @@ class Example:
     def listing(self):
         """The table of lines, where there is one."""
         rows = [f"| {' | '.join(row)} |" for row in self.lines]
-        return "\n".join(["| Base | Step | What the lines say |", "|---|---|---|", *rows]) if rows else ""
+        heading = ["| Base, offset 0 | Base, offset 1 | Step | What the lines say |", "|---|---|---|---|"]
+        return "\n".join([*heading, *rows]) if rows else ""
+
+    def certificate_file(self):
+        return self.certificate if isinstance(self.certificate, bytes) else self.certificate.file()
 
     def page(self):
         parts = [f"# {self.title}", wrapped(self.books), "\n".join([*self.heading(), *self.equations()]),
@@ -78,6 +86,11 @@ def wrapped(text):
     return textwrap.fill(" ".join(text.split()), 125)
 
 
+BANDS = (("first", "the first station asks, and is granted"), ("second", "the second station asks"),
+         ("quiet", "the first doesn't ask"), ("granted", "the second is granted"), ("both", "both are granted"),
+         ("fine", "the property"))
+SET_UP = (("five", "a constant"), ("none", "a constant"), ("set up", "minutes of set-up"),
+          ("carried", "minutes carried over from one instant before"), ("fine", "the property"))
 PAIRS = (("slot", "a booking's pair of minutes, any whole number"), ("turn", "a tone's pair of minutes"),
          ("start", "the minute that the booking begins at"), ("pair", "the minute that the tone's pair begins at"),
          ("one", "a constant"), ("{later}", "a constant"), ("lead", "how many minutes after its pair's first one a tone is sent"),
@@ -106,14 +119,14 @@ EXAMPLES = (
         "two-bands", "Two bands, one dish",
         """Two stations ask for one dish, each on its own band. The first is granted whenever it asks, the second only if the
         first doesn't ask.""",
-        (("first", "the first station asks, and is granted"), ("second", "the second station asks"),
-         ("quiet", "the first doesn't ask"), ("granted", "the second is granted"), ("both", "both are granted"),
-         ("fine", "the property")),
+        BANDS,
         "never are both granted at one instant.",
         "1. Nothing is remembered from one instant to the next, so that the step doesn't need what held before.",
-        """if both were granted, the first was (`first`) and the second was (`granted`); then the first was `quiet`, which is
-        not `first`. The step is the same twelve lines one offset on.""",
-        example_proofs.two_bands(), "accepted depth 1 base 12 step 12"),
+        """if both were granted, the first was (`first`) and the second was (`granted`); then the first was `quiet`, which is not
+        `first`. The base begins with "not `fine` at offset 0 or not `fine` at offset 1". Eleven lines refute the first of these,
+        each join keeping the second one, and the same eleven one offset on refute that. The step is the property line and these
+        eleven at offset 1.""",
+        example_proofs.two_bands(), "accepted depth 1 base 23 step 12"),
     Example(
         "free-minutes", "Free minutes",
         """A dish has 90 free minutes. At each instant some minutes are asked for, and booked if there are as many; if not,
@@ -126,7 +139,7 @@ EXAMPLES = (
         """say `left` is negative. Where `enough` holds, `left` is `free - asked` and `asked` is at most `free`: the sum of
         these constraints says 0 is at most -1. Where it doesn't, `left` is `free`, which is 90 at instant 0 and later the
         `left` of one instant before, not negative by the property. One join on `enough` puts the two cases together.""",
-        booking_proofs.free_minutes(), "accepted depth 1 base 23 step 27"),
+        booking_proofs.free_minutes(), "accepted depth 1 base 48 step 27"),
     Example(
         "grant", "A grant that holds until release",
         """A station that asks is granted the dish and keeps it, asking or not, until the dish is released. A release wins over
@@ -141,7 +154,7 @@ EXAMPLES = (
         """say there is a grant and never was a request. Then there is no release and no request now, so the grant was held. At
         instant 0 `held` is false. Later there was a grant one instant before, thus by the property a request up to then, and
         `ever` holds now.""",
-        example_proofs.grant(), "accepted depth 1 base 22 step 32"),
+        example_proofs.grant(), "accepted depth 1 base 50 step 32"),
     Example(
         "turns", "Two stations take turns",
         """One of two stations has the turn, at first the first one, and only that one is granted when it asks. After a grant
@@ -156,10 +169,10 @@ EXAMPLES = (
         """the first station has the turn exactly if the last grant was not its own, or there was none yet. So no station is
         granted twice in a row.""",
         "1. The turn and the note change together, so if they agree at one instant they agree at the next.",
-        """say `turn` and `open` differ. Then `next` and `noted` differed one instant before, while `turn` and `open` agreed.
-        Had the first station been granted, neither `next` nor `noted` would hold; had the second been, both would. So nobody
-        was, and `next` is `turn` and `noted` is `open`: these agree.""",
-        booking_proofs.turns(), "accepted depth 1 base 10 step 62"),
+        """at instant 0 `turn` and `open` both hold. Say that they differ later. Then `next` and `noted` differed one instant
+        before, while `turn` and `open` agreed. Had the first station been granted, neither `next` nor `noted` would hold; had the
+        second been, both would. So nobody was, and `next` is `turn` and `noted` is `open`: these agree.""",
+        booking_proofs.turns(), "accepted depth 1 base 69 step 62"),
     Example(
         "quota", "A quota of grants per pass",
         """In one pass of a satellite a station may be granted the dish three times, 20 minutes each. Grants are counted, and a
@@ -176,7 +189,7 @@ EXAMPLES = (
         """say there are over 60 `minutes`, which are 20 times `count`. With a grant, `so far` is under 3 and `count` is one
         more. Without one and in a new pass, `count` is 0. Else it is `before`: 0 at instant 0, and later the `count` of one
         instant before, 20 times which is at most 60 by the property. Constraints on counts are taken 20 times in the sums.""",
-        booking_proofs.quota(), "accepted depth 1 base 46 step 52"),
+        booking_proofs.quota(), "accepted depth 1 base 96 step 52"),
     Example(
         "handover", "Two crews hand over",
         """An early and a late crew share a dish and hand their minutes over to each other at every instant. The early crew may
@@ -188,10 +201,10 @@ EXAMPLES = (
         "the early crew never has more than 45 minutes.",
         """2. The property says nothing of the late crew, whose minutes are the early crew's at the next instant: at depth 1 it
         could have 100. Two instants on they come from the early crew itself.""",
-        """`early` is 40 at instant 0, and at instant 1 what `late` was at first, 30. For the step, `early` at offset 2 is
-        `late` at offset 1 and `handed` at offset 0. That is 30 or what `early` was at offset 0, at most 45 by the property. The
-        sum of the constraints on this way says 0 is at most -1, in both cases.""",
-        booking_proofs.handover(), "accepted depth 2 base 23 step 29"),
+        """`early` is 40 at instant 0, and at instant 1 what `late` was at first, 30. At offset 2, in the base and in the step,
+        `early` is `late` at offset 1 and `handed` at offset 0. That is 30 or what `early` was at offset 0, at most 45 by the
+        property. The sum of the constraints on this way says 0 is at most -1, in both cases.""",
+        booking_proofs.handover(), "accepted depth 2 base 50 step 29"),
     Example(
         "relay", "A licence handed along eight stations",
         """Eight stations hand a licence along: at each instant each takes over what the one before it had, and the first what
@@ -201,9 +214,10 @@ EXAMPLES = (
         "station 8 always has a valid licence.",
         """8. An invalid licence at station 1 is not seen at station 8 before seven instants have passed, so that seven valid
         ones in a row at station 8 don't show that the eighth is.""",
-        """at each instant below 8, what station 8 has is what some station had at instant 0. For the step, what it has at
-        offset 8 is what station 7 had at 7, and so on down to station 1 at 1, which is what station 8 had at offset 0.""",
-        example_proofs.ring(1, 8), "accepted depth 8 base 75 step 19"),
+        """what station 8 has at offset 8 is what station 7 had at 7, and so on down to station 1 at 1, which is what station 8
+        had at offset 0. That is the step. The base has nine instants: at instant 8 it is the same, and at each one below, what
+        station 8 has is what some station had at instant 0.""",
+        example_proofs.ring(1, 8), "accepted depth 8 base 91 step 19"),
     Example(
         "pairs-of-minutes", "Pairs of minutes",
         """A dish is booked in pairs of minutes: the booking of slot s begins at minute 2s. A tone that would spoil its first
@@ -215,33 +229,36 @@ EXAMPLES = (
         """the argument is one of parity: twice a whole number is even, 2t + 1 and 2t + 3 are odd, and no number is both. To add
         the constraints up doesn't show it, for half a slot after t, 2s is 2t + 1. A cut does: a whole number that is at most a
         half is at most 0. If the two minutes were equal, 2s - 2t would be at most 1, so s - t at most 0, the half of 1 rounded
-        down; and 2t - 2s would be at most -1, so t - s at most -1, the half of -1 rounded down. Added up, 0 is at most -1. A
-        line of kind 5 says each of the two: r is 2, its last literal is the constraint on s - t or t - s, and the others are
-        the negations of the constraints that are added up. In the step it is 3 in place of 1, and the halves are 1 and -2.""",
-        parity_proofs.pairs_of_minutes(), "accepted depth 1 base 34 step 34",
-        (("0 to 2", "34 to 36", "`{meets}`: the property fails"),
-         ("3, 4", "37, 38", "`start` is at most `tone`"),
-         ("5 to 9", "39 to 43", "equations: 2 `slot` is at most `start`; `tone` at most `pair` + `lead`; `pair` at most 2 `turn`; "
-          "`lead` at most `one`, and `one` at most 1 (step: `three`, 3)"),
-         ("10", "44", "cut, r = 2: the sum of these six is 2 `slot` - 2 `turn` at most 1 (step: 3), so `slot` - `turn` is at most "
-          "0 (step: 1), or one of the six doesn't hold"),
-         ("11 to 16", "45 to 50", "joins with the six: `slot` - `turn` is at most 0 (step: 1)"),
-         ("17, 18", "51, 52", "`tone` is at most `start`"),
-         ("19 to 23", "53 to 57", "equations: those of 5 to 9 the other way round"),
-         ("24", "58", "cut, r = 2: the sum is 2 `turn` - 2 `slot` at most -1 (step: -3), so `turn` - `slot` is at most -1 "
-          "(step: -2)"),
-         ("25 to 30", "59 to 64", "joins: `turn` - `slot` is at most -1 (step: -2)"),
-         ("31", "65", "arithmetic: lines 16 and 30 (step: 50 and 64) don't hold both"),
-         ("32, 33", "66, 67", "joins: `{ }`")),
+        down; and 2t - 2s would be at most -1, so t - s at most -1, the half of -1 rounded down. Added up, 0 is at most -1. A line
+        of kind 5 says each of the two: r is 2, its last literal is the constraint on s - t or t - s, and the others are the
+        negations of the constraints that are added up. At offset 1, in both parts, it is 3 in place of 1, and the halves are 1
+        and -2.""",
+        parity_proofs.pairs_of_minutes(), "accepted depth 1 base 67 step 34",
+        (("0", "", "67", "the property fails: at offset 0 or 1 (step: at 1)"),
+         ("1, 2", "34, 35", "68, 69", "`{meets}`; at offset 0, here and in all that is won from this, or the property fails "
+          "at offset 1"),
+         ("3, 4", "36, 37", "70, 71", "`start` is at most `tone`"),
+         ("5 to 9", "38 to 42", "72 to 76", "equations: 2 `slot` is at most `start`; `tone` at most `pair` + `lead`; `pair` "
+          "at most 2 `turn`; `lead` at most `one`, and `one` at most 1 (offset 1: `three`, 3)"),
+         ("10", "43", "77", "cut, r = 2: the sum of these six is 2 `slot` - 2 `turn` at most 1 (offset 1: 3), so `slot` - "
+          "`turn` is at most 0 (offset 1: 1), or one of the six doesn't hold"),
+         ("11 to 16", "44 to 49", "78 to 83", "joins with the six: `slot` - `turn` is at most 0 (offset 1: 1)"),
+         ("17, 18", "50, 51", "84, 85", "`tone` is at most `start`"),
+         ("19 to 23", "52 to 56", "86 to 90", "equations: those of 5 to 9 the other way round"),
+         ("24", "57", "91", "cut, r = 2: the sum is 2 `turn` - 2 `slot` at most -1 (offset 1: -3), so `turn` - `slot` is at "
+          "most -1 (offset 1: -2)"),
+         ("25 to 30", "58 to 63", "92 to 97", "joins: `turn` - `slot` is at most -1 (offset 1: -2)"),
+         ("31", "64", "98", "arithmetic: lines 16 and 30 (49 and 63, 83 and 97) don't hold both"),
+         ("32, 33", "65, 66", "99, 100", "joins: the property fails at offset 1; then `{ }`")),
         """Kind 4 and joins can say every cut too, and in as many lines: a line of kind 4 with the same literals and multipliers,
         but r for the last one, has the same clause. Here, twice "`slot` - `turn` is at least 1" can't stand beside
         "2 `slot` - 2 `turn` is at most 1"; that "not at most 0" is "at least 1" is where kind 4 knows that numbers are whole.
-        Written so, this certificate is accepted with 34 and 34 lines, 0 more. What kind 5 adds is that a solver's cut stands
+        Written so, this certificate is accepted with 67 and 34 lines, 0 more. What kind 5 adds is that a solver's cut stands
         there as the solver made it, divided and rounded, with the least bound that follows."""),
     Example(
         "half-minutes", "Half minutes",
-        """In a pass of a satellite a dish has three slots of 20 minutes. At each instant some minutes are asked for, and booked if
-        there is room for them beside those booked before; if not, nothing is. Asking for a negative number gives minutes back.
+        """In a pass of a satellite a dish has three slots of 20 minutes. At each instant some minutes are asked for, and booked
+        if there is room for them beside those booked before; if not, nothing is. Asking for a negative number gives minutes back.
         The dish's clock counts half minutes, and what is to be kept is said in these.""",
         HALVES,
         "the half minutes booked are at most 120, those of a pass.",
@@ -253,27 +270,32 @@ EXAMPLES = (
         are twice `booked`. Where `fits` holds, `booked` is `sum`, and that is at most `room`, 20 times `slots`. Where it
         doesn't, `booked` is `before`: 0 at instant 0, and later the `booked` of one instant before, twice which is at most 120
         by the property. In both cases the constraints, added up as they are written, say 0 is at most a negative number.""",
-        half_minute_proofs.half_minutes(), "accepted depth 1 base 28 step 34",
-        (("0 to 2", "28 to 30", "the property fails: `pass` - `halves` is at most -1"),
-         ("3, 4", "31, 32", "equations, as defined: `halves` - 2 `booked` is at most 0; -`pass` at most -120"),
-         ("5, 6", "33, 34", "equations, times 2: `!fits`, or 2 `booked` - 2 `sum` is at most 0; `!fits`, or 2 `sum` - 2 `room` is"),
-         ("7", "35", "equation, times 2: 2 `room` - 40 `slots` is at most 0"),
-         ("8", "36", "equation, times 40: 40 `slots` is at most 120"),
-         ("9 to 16", "37 to 44", "arithmetic with multipliers 1: these seven don't hold together; joins with them: `{!fits}`"),
-         ("17", "45", "equation, times 2: `fits`, or 2 `booked` - 2 `before` is at most 0"),
-         ("18, 19", "46 to 51", "equations, those on minutes times 2: `before` is at most `zero`, and `zero` at most 0 (step: "
-          "`before` is at most `booked` of one instant before, twice that at most `halves`, these at most `pass` by the property, "
-          "and `pass` at most 120)"),
-         ("20 to 26", "52 to 60", "arithmetic with multipliers 1, and joins: `{fits}`"),
-         ("27", "61", "join: `{ }`")),
-        """With its constraints as they are defined the certificate has as many lines and is accepted too; lines 9, 20, 37 and 52
-        then have multipliers 2 and 40 where these have 1. Lines of the other kinds take a constraint as it is written: joins
-        cite this constraint and no multiple of it, and arithmetic adds up the coefficients that stand there."""),
+        half_minute_proofs.half_minutes(), "accepted depth 1 base 60 step 34",
+        (("0", "", "60, 61", "the property fails, at offset 0 or 1 (step: it holds at 0 and fails at 1)"),
+         ("1", "27", "62, 63", "`pass` - `halves` is at most -1, or `fine`, which stays in all that is won from this (step: a "
+          "join strikes `fine`)"),
+         ("2, 3", "28, 29", "64, 65", "equations, as defined: `halves` - 2 `booked` is at most 0; -`pass` at most -120"),
+         ("4, 5", "30, 31", "66, 67", "equations, times 2: `!fits`, or 2 `booked` - 2 `sum` is at most 0; `!fits`, or 2 `sum` "
+          "- 2 `room` is"),
+         ("6", "32", "68", "equation, times 2: 2 `room` - 40 `slots` is at most 0"),
+         ("7", "33", "69", "equation, times 40: 40 `slots` is at most 120"),
+         ("8 to 15", "34 to 41", "70 to 77", "arithmetic with multipliers 1: these seven don't hold together; joins with "
+          "them: `{!fits}`"),
+         ("16", "42", "78", "equation, times 2: `fits`, or 2 `booked` - 2 `before` is at most 0"),
+         ("17, 18", "43 to 47", "79 to 83", "equations, those on minutes times 2: `before` is at most `zero`, and `zero` at "
+          "most 0 (offset 1: `before` is at most `booked` of one instant before, twice that at most `halves`, these at most "
+          "`pass` by the property there, which line 26 shows and line 60 says, and `pass` at most 120)"),
+         ("19 to 25", "48 to 56", "84 to 92", "arithmetic with multipliers 1, and joins: `{fits}`"),
+         ("26", "57", "93", "join: `{fine}` (step: `{ }`)"),
+         ("", "58, 59", "", "joins of line 0 with lines 26 and 57: `{ }`")),
+        """With its constraints as they are defined the certificate has as many lines and is accepted too; lines 8, 19, 34, 48, 70
+        and 84 then have multipliers 2 and 40 where these have 1. Lines of the other kinds take a constraint as it is written:
+        joins cite this constraint and no multiple of it, and arithmetic adds up the coefficients that stand there."""),
     Example(
         "property-first", "The property first",
         """The node of handover as its author writes it: what is to be kept stands first, then what that reads, and constants and
-        the input last. An early and a late crew share a dish and hand their minutes over to each other at every instant. The early
-        crew may give its minutes up; it then hands over 30, those of a short booking.""",
+        the input last. An early and a late crew share a dish and hand their minutes over to each other at every instant. The
+        early crew may give its minutes up; it then hands over 30, those of a short booking.""",
         (("fine", "the property"), ("early", "minutes of the early crew"), ("late", "minutes of the late crew"),
          ("handed", "what the early crew hands over"), ("limit", "the most minutes allowed"),
          ("long", "minutes of a long booking"), ("short", "minutes of a short one"),
@@ -282,7 +304,7 @@ EXAMPLES = (
         "2, as for handover.",
         """that of handover, line by line. Only the streams have other numbers, and the terms of each constraint rise by these:
         where it is on `early` and `limit`, that on `early` now comes first.""",
-        order_proofs.property_first(), "accepted depth 2 base 23 step 29", (),
+        order_proofs.property_first(), "accepted depth 2 base 50 step 29", (),
         """The reader works out an order, each time the lowest record whose operands needed now are all placed: `limit`, `long`,
         `early`, `fine`, `short`, `late`, `gives up`, `handed`. What `pre` reads is not needed now: `early` reads `late`, `late`
         reads `handed` and `handed` reads `early`, but only `handed` does so at the same instant. A session works its values out
@@ -296,8 +318,8 @@ EXAMPLES = (
         for the size of a number, so the node comes with a table of ranges.""",
         FLIGHT,
         "the minutes booked and those free are together at most 90: no minute is both.",
-        """1. Both counters move by the same `change`, or one of them is held; that they were together at most 90 one instant before
-        is all that is needed now. Without that both could be 90.""",
+        """1. Both counters move by the same `change`, or one of them is held; that they were together at most 90 one instant
+        before is all that is needed now. Without that both could be 90.""",
         """say `total` is over `pass`. Clause 2 of a greater says that `free` is at most `capped` or at most `none`. In the second
         case `free`, at most 0, and `booked`, at most `pass` by clause 1 of a lesser, are together at most `pass`. So `free` is at
         most `capped`. In the same way `raised` is at most `sum` or at most `none`. In the second case `booked`, at most `raised`
@@ -305,29 +327,33 @@ EXAMPLES = (
         `sum`. Now `booked` is at most `before` plus `change` and `free` at most `had` less `change`: together at most `before`
         plus `had`. That is 0 and 90 at instant 0, and later the `booked` and the `free` of one instant before, together at most
         90 by the property. How the minutes asked for are held doesn't matter here.""",
-        flight_proofs.flight_list(), "accepted depth 1 base 43 step 52",
-        (("0 to 2", "43 to 45", "the property fails: `pass` - `total` is at most -1"),
-         ("3", "46", "equation: `total` is at most `booked` + `free`"),
-         ("4", "47", "equation: `none` is at most 0"),
-         ("5", "48", "clause 2 of a greater: `free` is at most `capped`, or `free` is at most `none`"),
-         ("6", "49", "clause 1 of a lesser: `booked` is at most `pass`"),
-         ("7 to 11", "50 to 54", "arithmetic: lines 2, 3, 4 and 6 (step: 45, 46, 47 and 49) don't hold together with \"`free` is "
-          "at most `none`\"; joins with them: that doesn't hold"),
-         ("12", "55", "join: `free` is at most `capped`"),
-         ("13", "56", "clause 2 of a greater: `raised` is at most `sum`, or `raised` is at most `none`"),
-         ("14", "57", "clause 0 of a lesser: `booked` is at most `raised`"),
-         ("15", "58", "clause 1 of a lesser: `capped` is at most `pass`"),
-         ("16 to 22", "59 to 65", "arithmetic: lines 2, 3, 4, 12, 14 and 15 (step: 45, 46, 47, 55, 57 and 58) don't hold together "
-          "with \"`raised` is at most `none`\"; joins with them: that doesn't hold"),
-         ("23", "66", "join: `raised` is at most `sum`"),
-         ("24, 25", "67 to 74", "equations: `before` is at most `none`, and `had` at most `pass` (step: `before` is at most "
-          "`booked` and `had` at most `free` of one instant before, these together at most `total`, that at most `pass` by the "
-          "property, `pass` at most 90, and now at least 90)"),
-         ("26 to 29", "75 to 81", "arithmetic and joins: `before` + `had` - `pass` is at most 0"),
-         ("30", "82", "equation: `sum` is at most `before` + `change`"),
-         ("31", "83", "clause 0 of a lesser: `capped` is at most `rest`"),
-         ("32", "84", "equation: `rest` is at most `had` - `change`"),
-         ("33 to 42", "85 to 94", "arithmetic and joins: `{ }`")),
+        flight_proofs.flight_list(), "accepted depth 1 base 93 step 52",
+        (("0", "", "93, 94", "the property fails, at offset 0 or 1 (step: it holds at 0 and fails at 1)"),
+         ("1", "42", "95, 96", "`pass` - `total` is at most -1, or `fine`, which stays in all that is won from this (step: a "
+          "join strikes `fine`)"),
+         ("2", "43", "97", "equation: `total` is at most `booked` + `free`"),
+         ("3", "44", "98", "equation: `none` is at most 0"),
+         ("4", "45", "99", "clause 2 of a greater: `free` is at most `capped`, or `free` is at most `none`"),
+         ("5", "46", "100", "clause 1 of a lesser: `booked` is at most `pass`"),
+         ("6 to 10", "47 to 51", "101 to 105", "arithmetic: lines 1, 2, 3 and 5 (42, 43, 44 and 46; step: 96, 97, 98 and 100) "
+          "don't hold together with \"`free` is at most `none`\"; joins with them: that doesn't hold"),
+         ("11", "52", "106", "join: `free` is at most `capped`"),
+         ("12", "53", "107", "clause 2 of a greater: `raised` is at most `sum`, or `raised` is at most `none`"),
+         ("13", "54", "108", "clause 0 of a lesser: `booked` is at most `raised`"),
+         ("14", "55", "109", "clause 1 of a lesser: `capped` is at most `pass`"),
+         ("15 to 21", "56 to 62", "110 to 116", "arithmetic: lines 1, 2, 3, 11, 13 and 14 (42, 43, 44, 52, 54 and 55; step: "
+          "96, 97, 98, 106, 108 and 109) don't hold together with \"`raised` is at most `none`\"; joins with them: that "
+          "doesn't hold"),
+         ("22", "63", "117", "join: `raised` is at most `sum`"),
+         ("23, 24", "64 to 70", "118 to 124", "equations: `before` is at most `none`, and `had` at most `pass` (offset 1: "
+          "`before` is at most `booked` and `had` at most `free` of one instant before, these together at most `total`, that "
+          "at most `pass` by the property there, which line 41 shows and line 93 says, `pass` at most 90, and now at least 90)"),
+         ("25 to 28", "71 to 77", "125 to 131", "arithmetic and joins: `before` + `had` - `pass` is at most 0"),
+         ("29", "78", "132", "equation: `sum` is at most `before` + `change`"),
+         ("30", "79", "133", "clause 0 of a lesser: `capped` is at most `rest`"),
+         ("31", "80", "134", "equation: `rest` is at most `had` - `change`"),
+         ("32 to 41", "81 to 90", "135 to 144", "arithmetic and joins: `{fine}` (step: `{ }`)"),
+         ("", "91, 92", "", "joins of line 0 with lines 41 and 90: `{ }`")),
         "", tuple(flight_proofs.TABLES["flight-list"]),
         """least and greatest of each stream, in record order. `asked` has the widest range that a table may have, and no other
         stream but `wanted` gets more by it, for lesser and greater give one of their operands. The range of each other stream is
@@ -337,6 +363,29 @@ EXAMPLES = (
         34 as long as `asked` stays in its range.""",
         "listed"),
     Example(
+        "set-up", "A dish set up once",
+        """A dish is set up once: it takes five minutes at the first instant, and none later. The minutes of an instant are
+        carried over to the account of the next one.""",
+        SET_UP,
+        "never are more than five minutes carried over.",
+        "1. What is carried over is told by the instant before, and the property there is not needed.",
+        """say that `carried` is over `five`. At instant 0 it is `none`, 0. At instant 1 it is what `set up` was at instant 0,
+        `five`. For the step it is what `set up` was at offset 0. The window begins after instant 0, so that this is `none`, 0:
+        clause 0 of `->` at step offset 0 takes b.""",
+        set_up_proofs.set_up(), "accepted depth 1 base 23 step 13",
+        (("0", "", "23", "the property fails: at offset 0 or 1 (step: at 1)"),
+         ("1, 2", "11, 12", "24, 25", "`five` - `carried` is at most -1; at offset 0, here and in all that is won from "
+          "this, or the property fails at offset 1"),
+         ("3", "13", "26", "equation: -`five` is at most -5"),
+         ("4", "14", "27", "equation: `carried` is at most `none` (offset 1: at most `set up` at offset 0)"),
+         ("", "15", "28", "clause 0 of `->` at offset 0: `set up` is at most `five` (step: at most `none`)"),
+         ("5", "16", "29", "equation at offset 0: `none` is at most 0 (base, for offset 1: `five` is at most 5)"),
+         ("6 to 10", "17 to 22", "30 to 35", "arithmetic and joins: the property fails at offset 1; then `{ }`")),
+        """In version 1 a window could begin at any instant, and `->` had no clause at step offset 0. Of depth 1 there was no
+        refutation of the step: with `set up` 6 and `carried` 0 at offset 0, `set up` 0 and `carried` 6 at offset 1, and `five` 5
+        and `none` 0 at both, every clause holds, `fine` holds at offset 0 and fails at offset 1. It took depth 2, where `carried`
+        at offset 2 is `set up` at offset 1."""),
+    Example(
         "forged", "A forged certificate",
         """A licence office says at each instant whether a licence is valid, and its word takes two instants to arrive at the
         booking desk. Until then the desk takes the licence to be valid.""",
@@ -344,11 +393,12 @@ EXAMPLES = (
          ("under way", "what it said one instant before"), ("known", "what the desk knows, the property")),
         "the desk always has a valid licence. This is false: if `said` is 0 at instant 0, `known` is 0 at instant 2.",
         "1, but no depth would do.",
-        """the base is sound: `known` holds at instant 0. The step's line 6 joins lines 3 and 2, `{!valid}` and `{valid}`, and
-        has no literals left, which would end the step. Both are lines of the base, where line 3 was won from "`known` fails at
-        instant 0". The step may not say that: its offset 0 is any instant. A join takes lower lines of its own part, so line 6
-        is refused with 19. A checker that looks up cited lines without asking for their part would accept a false property.""",
-        booking_proofs.base_for_step(), "refused 19 line 6"),
+        """the base is sound: `known` holds at instants 0 and 1. The step's line 10 joins lines 7 and 4, `{!valid}` and `{valid}`,
+        and has no literals left, which would end the step. Both are lines of the base, where line 7 was won from "`known` fails
+        at instant 0 or 1". The step may not say that: its offset 1 is any instant from 2 on. A join takes lower lines of its own
+        part, so line 10 is refused with 19. A checker that looks up cited lines without asking for their part would accept a
+        false property.""",
+        booking_proofs.base_for_step(), "refused 19 line 10"),
     Example(
         "forged-pairs", "A forged cut",
         """The node of pairs-of-minutes, but the tone's clock is put only one minute on: after the first instant the tone of
@@ -358,39 +408,40 @@ EXAMPLES = (
         tone of turn 0 is sent then.""",
         "1, but no depth would do.",
         """its lines are those of pairs-of-minutes, byte for byte, and its constraints too, but for two: where those say that
-        `three` is at most 3, and at least, these say that `two` is at most 2, and at least. The base is sound. So is the
-        step's first cut, line 44: 2 `slot` - 2 `turn` is at most 2, and half of that is 1. The second one, line 58, has
-        2 `turn` - 2 `slot` at most -2, so `turn` - `slot` is at most -1, but says at most -2, as if there were something to
-        round down. All lines after it would stand, up to the empty one: a checker that doesn't look at the bound of a cut
-        would accept a false property. As a line of kind 4 it would be refused with 20.""",
-        parity_proofs.forged(), "refused 22 line 58"),
+        `three` is at most 3, and at least, these say that `two` is at most 2, and at least. The base is sound at instant 0. So is
+        the first cut at instant 1, line 43: 2 `slot` - 2 `turn` is at most 2, and half of that is 1. The second one, line 57, has
+        2 `turn` - 2 `slot` at most -2, so `turn` - `slot` is at most -1, but says at most -2, as if there were something to round
+        down. But for line 91, the same cut in the step, all lines after it would stand, up to the empty ones: a checker that
+        doesn't look at the bound of a cut would accept a false property. As a line of kind 4 it would be refused with 20.""",
+        parity_proofs.forged(), "refused 22 line 57"),
     Example(
         "forged-minutes", "A forged bound",
         """The node of half-minutes, but passes are half as long: 60 half minutes. The slots are as before.""",
         HALVES,
-        """the half minutes booked are at most 60, those of a pass. This is false: where 60 minutes are asked for at instant 0 they
-        are booked, and these are 120 half minutes.""",
+        """the half minutes booked are at most 60, those of a pass. This is false: where 60 minutes are asked for at instant 0
+        they are booked, and these are 120 half minutes.""",
         "1, but no depth would do.",
         """its lines are those of half-minutes, byte for byte, and its constraints too, but for five. Three say 60 of `pass` in
-        place of 120. The other two, one for each part, say that 40 `slots` is at most 3: the coefficient of "`slots` is at most
-        3" is multiplied and the bound is not. Line 8 has the first of them and is refused with 17, for 40 times the defined
-        constraint has bound 120. But for line 36, which has the second, all lines after it would stand, up to the empty ones: a
-        checker that multiplies coefficients alone would accept a false property. With the bound 120 in both, line 9 would be
-        refused with 20.""",
-        half_minute_proofs.forged(), "refused 17 line 8"),
+        place of 120. The other two, one for each offset, say that 40 `slots` is at most 3: the coefficient of "`slots` is at most
+        3" is multiplied and the bound is not. Line 7 has the first of them and is refused with 17, for 40 times the defined
+        constraint has bound 120. But for lines 33 and 69, which have the second, all lines after it would stand, up to the empty
+        ones: a checker that multiplies coefficients alone would accept a false property. With the bound 120 in both, line 8 would
+        be refused with 20.""",
+        half_minute_proofs.forged(), "refused 17 line 7"),
     Example(
         "forged-loop", "A loop of equations",
-        """Two stations ask for one dish. The second is granted whenever it asks. The first is to be granted if it asks and was not
-        granted one instant before, but the author left the `pre` out: it is granted if it is not granted.""",
+        """Two stations ask for one dish. The second is granted whenever it asks. The first is to be granted if it asks and was
+        not granted one instant before, but the author left the `pre` out: it is granted if it is not granted.""",
         (("first", "the first station asks"), ("second", "the second station asks, and is granted"),
          ("granted", "the first is granted"), ("idle", "the first is not granted"), ("both", "both are granted"),
          ("fine", "the property")),
         """never are both granted at one instant. It is neither true nor false: where `first` is 1 the equations have no
         solution, for `granted` would be not `granted`.""",
         "1, but no depth would do.",
-        """if both were granted, the first was (`granted`); then it was `idle`, which is not `granted`. The step is the same ten
-        lines one offset on. Every line is as the equations have it, and the last one of each part has no literals: from
-        equations that nothing solves, everything follows. A checker that only compared lines with equations would accept it.""",
+        """if both were granted, the first was (`granted`); then it was `idle`, which is not `granted`. The base says so of
+        instants 0 and 1, nine lines each, and the step of offset 1. Every line is as the equations have it, and the last one of
+        each part has no literals: from equations that nothing solves, everything follows. A checker that only compared lines with
+        equations would accept it.""",
         order_proofs.forged(), "refused 23 record 2", (),
         """So the reader asks for an order in which each record comes after those that it needs now. `first` and `second` are
         placed. `granted` waits for `idle` and `idle` for `granted`; `both` waits for `granted`, and `fine` for `both`. The lowest
@@ -402,20 +453,47 @@ EXAMPLES = (
         """The node of flight-list, but its author wants to see a slot free at all times: `free` is held at `slot`, 30, and not at
         `none`. The minutes booked are held between 0 and 90 as before.""",
         FLIGHT,
-        """the minutes booked and those free are together at most 90. This is false: where `asked` is 30 at instants 0, 1 and 2, 90
-        are booked at instant 2 and 30 are free, together 120.""",
+        """the minutes booked and those free are together at most 90. This is false: where `asked` is 30 at instants 0, 1 and 2,
+        90 are booked at instant 2 and 30 are free, together 120.""",
         "1, but no depth would do.",
-        """the argument is flight-list's without its first case. Clause 2 of a greater is that `free` is at most `capped` or at most
-        `slot`. Line 5 says that `free` is at most `capped`, as if a greater were never its second operand, and is refused with
-        17: a literal is missing. But for line 41, which says the same in the step, all lines after it would stand, up to the empty
-        ones: a checker that is content if what a line has stands in the clause would accept a false property. With both literals
-        the case of `slot` is left, which nothing contradicts.""",
-        flight_proofs.forged(), "refused 17 line 5", (), "", tuple(flight_proofs.TABLES["forged-flight-list"]),
+        """the argument is flight-list's without its first case. Clause 2 of a greater is that `free` is at most `capped` or at
+        most `slot`. Line 4 says that `free` is at most `capped`, as if a greater were never its second operand, and is refused
+        with 17: a literal is missing. But for lines 38 and 85, which say the same of offset 1, all lines after it would stand, up
+        to the empty ones: a checker that is content if what a line has stands in the clause would accept a false property. With
+        both literals the case of `slot` is left, which nothing contradicts.""",
+        flight_proofs.forged(), "refused 17 line 4", (), "", tuple(flight_proofs.TABLES["forged-flight-list"]),
         """that of flight-list, but `sum` has 119 for 120, too small by one. `before` is at most 90 and `change` at most 30, so
         that 120 would have to be inside, and record 8 is named. With the inputs from above and 30 once more `sum` is 120, at
         instant 3. With the table of flight-list the node would be listed: `free` is 30 to 90 by its operator, which lies inside
         0 to 90. A table says nothing of the property.""",
         "refused 72 record 8"),
+    Example(
+        "forged-set-up", "A forged base",
+        """The node of set-up, but its author says that nothing is ever carried over.""",
+        SET_UP,
+        """the minutes carried over are at most `none`, 0. This is false: at instant 1 `carried` is 5. The values at instants 0, 1
+        and 2 are 5, 0, 5, 0, 1; 5, 0, 0, 5, 0 and 5, 0, 0, 0, 1.""",
+        "1, but no depth would do.",
+        """its base has instant 0 alone, as in version 1, and begins with line 0, `{!fine}` at offset 0. Its step is that of
+        set-up: what is carried over at offset 1 is what `set up` was at offset 0, and that is `none`, for the window begins after
+        instant 0. So no part says anything of instant 1. At depth 1 the base's property line has offsets 0 and 1, and line 0 is
+        refused with 18. All lines after it would stand, up to the empty ones: a checker with the step of version 2 and the base
+        of version 1 would accept a false property. With both literals in line 0, "not `fine` at offset 1" is left, which nothing
+        contradicts.""",
+        set_up_proofs.first_instant_alone(), "refused 18 line 0"),
+    Example(
+        "archived-two-bands", "Two bands, archived",
+        """The node of two-bands. Two stations ask for one dish, each on its own band. The first is granted whenever it asks, the
+        second only if the first doesn't ask.""",
+        BANDS,
+        "never are both granted at one instant.",
+        "1.",
+        """that of version 1, byte for byte as it was accepted: `accepted depth 1 base 12 step 12`. Its base is of instant 0 alone
+        and its step the same twelve lines one offset on. In version 1 a window of the step could begin at instant 0, so that the
+        base ended there. What was shown of the node then holds still, but the file is refused now, by its version byte and before
+        any of its lines is looked at. The certificate of two-bands says the same in version 2. With the version byte alone made
+        2, line 0 would be refused with 18: it has no offset 1.""",
+        archived_file("two-bands"), "refused 12 file"),
 )
 
 PAGE = """# Examples
@@ -423,6 +501,10 @@ PAGE = """# Examples
 Nodes of a booking scheduler. Each folder has a node file, a certificate file, the one line `verdict` that a checker says of the
 two, and a page that gives the equations and the argument. Those for the flight list also have a table of ranges, `table.bin`, and
 the one line `listed` that the check of ranges says of node and table. `tools/make_examples.py` writes them all.
+
+The certificates are of version 2: at depth k the base shows the property at instants 0 to k, and the step at the last of k + 1
+instants in a row that begin after instant 0. Where an argument needs the property of an earlier instant, the step takes it from
+its property lines and the base from what it has shown of that instant. One certificate is archived, of version 1.
 
 | Folder | What it is | Verdict |
 |---|---|---|
@@ -444,7 +526,7 @@ def main():
         files = folder / example.name
         files.mkdir(parents=True, exist_ok=True)
         (files / "node.bin").write_bytes(NODES[example.name])
-        (files / "cert.bin").write_bytes(example.certificate.file())
+        (files / "cert.bin").write_bytes(example.certificate_file())
         (files / "verdict").write_text(f"{example.verdict}\n")
         (files / "README.md").write_text(example.page())
         if example.ranges:

@@ -1,7 +1,6 @@
 """Writers of node files, field by field, right or wrong, and of tables of ranges; and of the folder of a program that is run on
 files."""
 import pathlib
-import shutil
 import struct
 
 ROOT = pathlib.Path(__file__).resolve().parent.parent
@@ -84,11 +83,14 @@ ALL = [
 ]
 
 
-def write_data(crate, files):
-    """The crate's data folder holds these files, by name, and no others; a file that is None is not there."""
+def write_data(crate, files, kept=()):
+    """The crate's data folder holds these files, by name, those that are kept as they stand, and no others; a file that is None
+    is not written."""
     data = ROOT / "crates" / crate / "data"
-    shutil.rmtree(data, ignore_errors=True)
-    data.mkdir(parents=True)
+    data.mkdir(parents=True, exist_ok=True)
+    for path in data.iterdir():
+        if path.name not in kept:
+            path.unlink()
     for name, content in files.items():
         if content is not None:
             (data / name).write_bytes(content)

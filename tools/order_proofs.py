@@ -2,7 +2,7 @@
 other, with a certificate whose every line is as these have it."""
 import booking_proofs
 from certificate_files import opp
-from example_proofs import at, at_one_offset
+from example_proofs import at, at_each_offset
 from node_files import BOOL, INPUT, INT, node, rec, reordered_node
 
 # The records of handover: the property, then what it reads, constants and the input last.
@@ -22,11 +22,10 @@ def property_first():
 
 def forged():
     """From 4 follow 2, then 3, then not 2."""
-    def prove(proof, o):
+    def prove(proof, o, fails):
         s = at(o)
-        two = proof.strike(proof.property(o, opp(s(5))), proof.equation(5, o, 0, s(5), s(4)),
-                           proof.equation(4, o, 0, opp(s(4)), s(2)))
+        two = proof.strike(fails, proof.equation(5, o, 0, s(5), s(4)), proof.equation(4, o, 0, opp(s(4)), s(2)))
         not_two = proof.strike(two, proof.equation(2, o, 1, opp(s(2)), s(3)), proof.equation(3, o, 1, opp(s(3)), opp(s(2))))
-        proof.strike(two, not_two)
+        return proof.strike(two, not_two)
 
-    return at_one_offset(prove)
+    return at_each_offset(5, prove)

@@ -1,6 +1,6 @@
 """Bookings that begin at even minutes and tones at odd ones: a whole certificate by cuts, the same without, and a forged one."""
-from certificate_files import Proof, opp
-from example_proofs import NUMBER, at
+from certificate_files import opp
+from example_proofs import NUMBER, at, at_each_offset
 from node_files import BOOL, INT, node, rec
 
 
@@ -13,7 +13,7 @@ def pairs_node(later):
 NODES = {"pairs-of-minutes": pairs_node(3), "forged-pairs": pairs_node(2)}
 
 
-def part(proof, o, halve, constant, minutes, half):
+def part(proof, o, fails, halve, constant, minutes, half):
     """Twice 0, less twice 1, is `minutes`, the value of `constant`; yet 0 less 1 is at most `half`, and at least one more."""
     s = at(o)
 
@@ -22,7 +22,7 @@ def part(proof, o, halve, constant, minutes, half):
         sign = (1, -1)[r]
         return proof.equation(p, o, r, proof.at_most({(q, o): sign * c for q, c in {p: 1, **others}.items()}, sign * bound))
 
-    meets = proof.strike(proof.equation(9, o, 0, s(9), s(8)), proof.property(o, opp(s(9))))
+    meets = proof.strike(proof.equation(9, o, 0, s(9), s(8)), fails)
 
     def halved(r, bound):
         """Of lines that say, r 0, that twice 0 less twice 1 is at most `minutes` and, r 1, at least: half of that."""
@@ -32,7 +32,7 @@ def part(proof, o, halve, constant, minutes, half):
                  equation(6, r, {constant: -1}), equation(constant, r, {}, minutes))
         return halve(proof, lines, proof.at_most({(0, o): sign, (1, o): -sign}, bound))
 
-    proof.clash(halved(0, half), halved(1, -half - 1))
+    return proof.clash(halved(0, half), halved(1, -half - 1))
 
 
 def by_cut(proof, lines, last):
@@ -47,13 +47,12 @@ def by_arithmetic(proof, lines, last):
 
 def pairs_of_minutes(later=3, halve=by_cut):
     """Another `later` changes what the constraints say of it, and no line."""
-    proof = Proof(1)
-    part(proof, 0, halve, 4, 1, 0)
-    proof.begin_step()
-    part(proof, 1, halve, 5, later, 1)
-    return proof.certificate()
+    def prove(proof, o, fails):
+        return part(proof, o, fails, halve, *((4, 1, 0), (5, later, 1))[o])
+
+    return at_each_offset(9, prove)
 
 
 def forged():
-    """Of 1 less 0, twice which is at most -2, the step's second cut says at most -2."""
+    """Of 1 less 0, twice which is at most -2, the second cut at offset 1 says at most -2."""
     return pairs_of_minutes(2)
