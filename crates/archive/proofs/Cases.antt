@@ -1,6 +1,7 @@
 -- The starred cases on certificates of version 1, computed.
 -- Assumes nothing.
 use mathlib.Core.Path.{refl}
+use lib.IntN.{pos, negℤ}
 use Rattle.fields.specs.Fields.{twosComplement}
 use Rattle.answers.specs.declared.Place.the-variants.{File, Line as AtLine, Base}
 use Rattle.answers.specs.Answer.{accepted, refused}
@@ -22,15 +23,15 @@ use Rattle.rules.specs.Joins.{standsFrom, joins, joinOk}
 use Rattle.rules.specs.Lines.{slotOk, numbersOk, shapeOk as lineShape, basePropertyOk, stepPropertyOk, clauseIs, equationIn, kindFault}
 use Rattle.rules.specs.Verdict.{shapePasses, lineFault, partsVerdict, linesVerdict, constraintsVerdict, fileVerdict, beforeLines, verdictOf}
 use Rattle.rules.specs.Versions.{version1}
-use Rattle.soundness.specs.Files.{noughts, minusOne, atMost, line, certificateFile}
+use Rattle.soundness.specs.Files.{atMost, line, certificateFile}
 use Rattle.soundness.specs.Starred.{checks, twoBands, constantTrue, ofDepth, trueAndInts, opposites, bandsWhole, stepAlone, Holds}
 use Rattle.archive.specs.Cases.{archivedCases, ArchivedStarred}
 
-opposites-pass : Holds (checks version1 trueAndInts (opposites version1 (minusOne 8) (noughts 8)) (accepted (record { depth = 1; base = 4; step = 3 })))
+opposites-pass : Holds (checks version1 trueAndInts (opposites version1 (negℤ (pos 1)) (pos 0)) (accepted (record { depth = 1; base = 4; step = 3 })))
 unfolding trueAndInts opposites atMost nodeFile recordBytes trailerBytes nodeVerdict recordsVerdict typesVerdict isAmong isReady lowestReady orderAfter neededNow equationReads rowFor lengthOk fixedOk countsOk distanceOk lowest shapeOk unusedOk operandsOk typesOk propertyOk rowOf recordsOf recordAmong twosComplement line certificateFile certFixed certCounts certDistance verdictOf fileVerdict beforeLines constraintsVerdict partsVerdict linesVerdict every shapePasses lineShape slotOk numbersOk namesAtom lineFault kindFault typeAmong decoded equationIn clauseIs basePropertyOk stepPropertyOk listedIn standsFrom joins joinOk constraintOk termOk usedOk rises termUnused usedIn written sumOf arithmeticOk
 opposites-pass = refl
 
-opposites-fail : Holds (checks version1 trueAndInts (opposites version1 (noughts 8) (noughts 8)) (refused 20 (AtLine 3)))
+opposites-fail : Holds (checks version1 trueAndInts (opposites version1 (pos 0) (pos 0)) (refused 20 (AtLine 3)))
 unfolding trueAndInts opposites atMost nodeFile recordBytes trailerBytes nodeVerdict recordsVerdict typesVerdict isAmong isReady lowestReady orderAfter neededNow equationReads rowFor lengthOk fixedOk countsOk distanceOk lowest shapeOk unusedOk operandsOk typesOk propertyOk rowOf recordsOf recordAmong twosComplement line certificateFile certFixed certCounts certDistance verdictOf fileVerdict beforeLines constraintsVerdict partsVerdict linesVerdict every shapePasses lineShape slotOk numbersOk namesAtom lineFault kindFault typeAmong decoded equationIn clauseIs basePropertyOk stepPropertyOk listedIn standsFrom joins joinOk constraintOk termOk usedOk rises termUnused usedIn written sumOf arithmeticOk
 opposites-fail = refl
 

@@ -1,2 +1,5 @@
+pub mod Accepted
 pub mod Archive
 pub mod Cases
+pub mod Halved
+pub mod NeedsVersion2

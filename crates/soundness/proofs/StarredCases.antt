@@ -3,7 +3,7 @@
 use mathlib.Core.Path.{_≡_, refl, sym, _∙_, ap}
 use mathlib.Core.List.{List, [], _∷_}
 use native.Mathlib.Nat.{not-suc-le-zero}
-use lib.IntN.{ℤ, pos}
+use lib.IntN.{ℤ, pos, negℤ}
 use lib.ListN.{replicate, length-replicate}
 use Rattle.integers.specs.Range.{inside}
 use Rattle.fields.specs.Fields.{twosComplement}
@@ -38,7 +38,7 @@ use Rattle.session.specs.Records.{begun, holdsNode}
 use Rattle.session.proofs.CallAnswers.{answered-typed}
 use Rattle.session.proofs.JustBegun.{begun-stands}
 use Rattle.session.proofs.Standing.{worked-out-is}
-use Rattle.soundness.specs.Files.{noughts, minusOne, atMost, line, certificateFile}
+use Rattle.soundness.specs.Files.{atMost, line, certificateFile}
 use Rattle.soundness.specs.Starred.{FirstCall, Answers, checks, reads, refuses, twoBands, doubling, ofSize, constantTrue, ofDepth, trueAndInts, opposites, bandsWhole, stepAlone, bothAsked, greatestDoubled, leastDoubled, cases, Holds, Starred}
 
 -- what is computed of a first call: the verdict on its file, the answer and the values
@@ -88,11 +88,11 @@ least-doubled : Computed leastDoubled
 unfolding doubling nodeFile recordBytes trailerBytes nodeVerdict recordsVerdict typesVerdict isAmong isReady lowestReady orderAfter neededNow equationReads rowFor lengthOk fixedOk countsOk distanceOk lowest shapeOk unusedOk operandsOk typesOk propertyOk rowOf recordsOf recordAmong twosComplement every typeAmong decoded inputsBelow noteLength evaluated instant firstOf equals truth inputFits instantOf answerOf holdsNode inside
 least-doubled = record { node = record { streams = 3; property = 2 }; is-accepted = refl; answered = refl; values = refl }
 
-opposites-pass : Holds (checks version2 trueAndInts (opposites version2 (minusOne 8) (noughts 8)) (accepted (record { depth = 1; base = 6; step = 3 })))
+opposites-pass : Holds (checks version2 trueAndInts (opposites version2 (negℤ (pos 1)) (pos 0)) (accepted (record { depth = 1; base = 6; step = 3 })))
 unfolding trueAndInts opposites atMost nodeFile recordBytes trailerBytes nodeVerdict recordsVerdict typesVerdict isAmong isReady lowestReady orderAfter neededNow equationReads rowFor lengthOk fixedOk countsOk distanceOk lowest shapeOk unusedOk operandsOk typesOk propertyOk rowOf recordsOf recordAmong twosComplement line certificateFile certFixed certCounts certDistance verdictOf fileVerdict beforeLines constraintsVerdict partsVerdict linesVerdict every shapePasses lineShape slotOk numbersOk namesAtom lineFault kindFault typeAmong decoded equationIn clauseIs basePropertyOk stepPropertyOk listedIn standsFrom joins joinOk constraintOk termOk usedOk rises termUnused usedIn written sumOf arithmeticOk
 opposites-pass = refl
 
-opposites-fail : Holds (checks version2 trueAndInts (opposites version2 (noughts 8) (noughts 8)) (refused 20 (AtLine 5)))
+opposites-fail : Holds (checks version2 trueAndInts (opposites version2 (pos 0) (pos 0)) (refused 20 (AtLine 5)))
 unfolding trueAndInts opposites atMost nodeFile recordBytes trailerBytes nodeVerdict recordsVerdict typesVerdict isAmong isReady lowestReady orderAfter neededNow equationReads rowFor lengthOk fixedOk countsOk distanceOk lowest shapeOk unusedOk operandsOk typesOk propertyOk rowOf recordsOf recordAmong twosComplement line certificateFile certFixed certCounts certDistance verdictOf fileVerdict beforeLines constraintsVerdict partsVerdict linesVerdict every shapePasses lineShape slotOk numbersOk namesAtom lineFault kindFault typeAmong decoded equationIn clauseIs basePropertyOk stepPropertyOk listedIn standsFrom joins joinOk constraintOk termOk usedOk rises termUnused usedIn written sumOf arithmeticOk
 opposites-fail = refl
 

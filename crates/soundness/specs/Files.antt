@@ -1,7 +1,7 @@
 -- Certificates put together from their fields, for worked cases.
 use Prim.Native.Nat.{ℕ, _+_, _-_, _*_}
 use mathlib.Core.List.{List, [], _∷_, _++_, foldr}
-use lib.IntN.{ℤ}
+use lib.IntN.{ℤ, pos, negsuc}
 use lib.ListN.{length, replicate}
 use Rattle.fields.specs.Written.{u16Bytes, u32Bytes}
 use Rattle.node.specs.declared.layout.Record.{Record}
@@ -15,23 +15,18 @@ rec op ty a b c k = record { op = op; ty = ty; a = a; b = b; c = c; k = k; rest 
 abbrev pub padded : (n : ℕ) → List ℕ → List ℕ
 padded n l = l ++ replicate (n - length l) 0
 
--- a number of so many bytes: 0, 1 and −1
-abbrev pub noughts : (n : ℕ) → List ℕ
-noughts n = replicate n 0
+-- a signed number within ±200 of so many bytes
+abbrev pub small : (bytes : ℕ) → ℤ → List ℕ
+small bytes (pos n) = padded bytes (n ∷ [])
+small bytes (negsuc n) = (255 - n) ∷ replicate (bytes - 1) 255
 
-abbrev pub plusOne : (n : ℕ) → List ℕ
-plusOne n = padded n (1 ∷ [])
-
-abbrev pub minusOne : (n : ℕ) → List ℕ
-minusOne n = replicate n 255
-
--- "u16 stream, u8 offset (0 to k), zero byte, i32 coefficient", at offset 0
-abbrev pub term : (stream : ℕ) → (coefficient : List ℕ) → List ℕ
-term stream coefficient = u16Bytes stream ++ noughts 2 ++ coefficient
+-- "u16 stream, u8 offset (0 to k), zero byte, i32 coefficient"
+abbrev pub term : (stream offset : ℕ) → (coefficient : ℤ) → List ℕ
+term stream offset coefficient = u16Bytes stream ++ (offset ∷ 0 ∷ []) ++ small 4 coefficient
 
 -- "term count (0 to 8), seven zero bytes, i64 bound (within ±100,000,000,000), eight terms": the used ones
-unfoldable pub atMost : (terms : List (List ℕ)) → (bound : List ℕ) → List ℕ
-atMost terms bound = padded 80 ((length terms ∷ noughts 7) ++ bound ++ foldr _++_ [] terms)
+unfoldable pub atMost : (terms : List (List ℕ)) → (bound : ℤ) → List ℕ
+atMost terms bound = padded 80 ((length terms ∷ replicate 7 0) ++ small 8 bound ++ foldr _++_ [] terms)
 
 -- "kind byte, literal count byte (0 to 12), u16 p, q, r, twelve u16 literals, twelve u32 multipliers": the listed ones
 unfoldable pub line : (kind p q r : ℕ) → (literals multipliers : List ℕ) → List ℕ

@@ -22,7 +22,7 @@ use Rattle.streams.specs.Typing.{Inputs, TypedInstant}
 use Rattle.streams.specs.Values.{valuesIn}
 use Rattle.session.specs.Instants.{answerOf, sliceOf}
 use Rattle.session.specs.Records.{begun}
-use Rattle.soundness.specs.Files.{rec, noughts, plusOne, minusOne, term, atMost, line, certificateFile}
+use Rattle.soundness.specs.Files.{rec, term, atMost, line, certificateFile}
 
 -- a just begun session's first call: its inputs, one number an input, and the values that it leaves, one number a stream
 pub record FirstCall : Type 0 where
@@ -68,10 +68,10 @@ unfoldable pub constantTrue : List ℕ
 constantTrue = nodeFile (rec 1 0 0 0 0 (pos 1) ∷ []) 0
 
 -- stream s at offset j, and its negation, as literals
-abbrev is : (j s : ℕ) → ℕ
+abbrev pub is : (j s : ℕ) → ℕ
 is j s = 2 * variable j s
 
-abbrev isNot : (j s : ℕ) → ℕ
+abbrev pub isNot : (j s : ℕ) → ℕ
 isNot j s = negative (variable j s)
 
 -- the property at offset j
@@ -79,7 +79,7 @@ abbrev prop : (j : ℕ) → ℕ
 prop j = is j 0
 
 -- a stream negated at the offsets from j on
-abbrev negations : (s j left : ℕ) → List ℕ
+abbrev pub negations : (s j left : ℕ) → List ℕ
 negations s j zero = []
 negations s j (suc left) = isNot j s ∷ negations s (suc j) left
 
@@ -117,11 +117,11 @@ trueAndInts = nodeFile (rec 1 0 0 0 0 (pos 1) ∷ rec 0 1 0 0 0 (pos 0) ∷ rec 
 
 -- a whole certificate for it whose last base line is of kind 4 with multipliers 1 and 1: its literals are the negations of
 -- "u − v at most" one bound and "v − u at most" another, u and v being 1 and 2, so that these two are its opposites
-unfoldable pub opposites : Version → (one other : List ℕ) → List ℕ
+unfoldable pub opposites : Version → (one other : ℤ) → List ℕ
 opposites version one other =
     let n = version .covered 1 in
     certificateFile version 1
-    (atMost (term 1 (plusOne 4) ∷ term 2 (minusOne 4) ∷ []) one ∷ atMost (term 1 (minusOne 4) ∷ term 2 (plusOne 4) ∷ []) other ∷ [])
+    (atMost (term 1 0 (pos 1) ∷ term 2 0 (negℤ (pos 1)) ∷ []) one ∷ atMost (term 1 0 (negℤ (pos 1)) ∷ term 2 0 (pos 1) ∷ []) other ∷ [])
     (base n ++ line 4 0 0 0 (negative 576 ∷ negative 577 ∷ []) (1 ∷ 1 ∷ []) ∷ [])
     (step (2 * n + 2) 1)
 
@@ -203,8 +203,8 @@ cases =
     ∷ refuses doubling (pos 4611686018427387904 ∷ []) 34 (AtRecord 1)
     ∷ answers leastDoubled
     -- "*Opposites "u − v at most −1" and "v − u at most 0" pass as kind 4, multipliers 1 and 1; *with both bounds 0 it is 20."
-    ∷ checks version2 trueAndInts (opposites version2 (minusOne 8) (noughts 8)) (accepted (record { depth = 1; base = 6; step = 3 }))
-    ∷ checks version2 trueAndInts (opposites version2 (noughts 8) (noughts 8)) (refused 20 (AtLine 5))
+    ∷ checks version2 trueAndInts (opposites version2 (negℤ (pos 1)) (pos 0)) (accepted (record { depth = 1; base = 6; step = 3 }))
+    ∷ checks version2 trueAndInts (opposites version2 (pos 0) (pos 0)) (refused 20 (AtLine 5))
     -- "*Depth 8 passes, *9 is 13."
     ∷ checks version2 constantTrue (ofDepth version2 8) (accepted (record { depth = 8; base = 19; step = 3 }))
     ∷ checks version2 constantTrue (ofDepth version2 9) (refused 13 File)
