@@ -1,6 +1,6 @@
 #!/usr/bin/env python3
 """Writes the seeds of all targets: seeds.py FOLDER. From the examples, crates/check_pairs, nodes in another order and with loops,
-sessions at the ends of 64 bits, and a held level with its ranges."""
+certificates of every depth and of other versions, sessions at the ends of 64 bits, and a held level with its ranges."""
 import itertools
 import pathlib
 import struct
@@ -8,9 +8,11 @@ import sys
 
 ROOT = pathlib.Path(__file__).resolve().parent.parent
 sys.path.insert(0, str(ROOT / "tools"))
+from certificate_files import Proof, lit, opp
 from node_files import ALL, BOOL, INT, OPERANDS, TWO_BANDS, node as node_file, rec, replaced
 
 DATA = ROOT / "crates" / "check_pairs" / "data"
+VERSION = 2
 RECORD_FILE = 1040
 NATURAL = 128
 ENDS = [-2**63, -2**62, -1, 0, 1, 2**62, 2**63 - 1]
@@ -55,9 +57,55 @@ def orders():
                 yield f"{name}-own-{i}-{which}", node_file(replaced(there, i, wrong), last - prop)
 
 
+def late(k):
+    """A node whose property is what 2 was k instants before, and its certificate of depth k. 2 is 0 -> 1, both true, and 5 is
+    3 -> 4, both 7, so that the step has operator 12 of both types at offset 0."""
+    true, seven = rec(1, BOOL, k=1), rec(1, INT, k=7)
+    streams = [2, *range(6, 6 + k)]
+    delays = [rec(13, BOOL, 0, before) for before in streams[:-1]]
+    node = node_file([true, true, rec(12, BOOL, 0, 1), seven, seven, rec(12, INT, 3, 4), *delays], streams[k])
+    proof = Proof(k)
+
+    def back(line, q):
+        """The line with a stream at offset 0 for the property at offset q."""
+        for offset in range(q, 0, -1):
+            now, before = streams[k - q + offset], streams[k - q + offset - 1]
+            line = proof.strike(line, proof.equation(now, offset, 1, lit(now, offset), opp(lit(before, offset - 1))))
+        return line
+
+    def arrow(operand):
+        """Both clauses of 5 at offset 0."""
+        for r, sign in enumerate((1, -1)):
+            proof.equation(5, 0, r, proof.at_most({(operand, 0): -sign, (5, 0): sign}, 0))
+
+    fails = proof.property(0, *[opp(lit(streams[k], q)) for q in range(k + 1)])
+    for q in range(k + 1):
+        first = streams[k - q]
+        begins = proof.equation(first, 0, 1, lit(first), opp(lit(0)))
+        fails = proof.strike(back(fails, q), begins, proof.equation(0, 0, 0, lit(0)))
+    arrow(3)
+    proof.begin_step()
+    fails = back(proof.property(k, opp(lit(streams[k], k))), k)
+    proof.strike(fails, proof.equation(2, 0, 1, lit(2), opp(lit(1))), proof.equation(1, 0, 0, lit(1)))
+    arrow(4)
+    return node, proof.certificate()
+
+
+def depths():
+    """Certificates of every depth, of other depths and of other versions."""
+    for k in range(1, 9):
+        node, certificate = late(k)
+        yield f"late-{k}", node, certificate.file(version=VERSION)
+        for other in (0, 1, 3, 255):
+            yield f"late-{k}-version-{other}", node, certificate.file(version=other)
+        for other in (0, k - 1, k + 1, 9):
+            yield f"late-{k}-depth-{other}", node, certificate.file(version=VERSION, depth=other)
+
+
 def pairs():
     for name, node in orders():
         yield name, node, b""
+    yield from depths()
     for folder in sorted(p for p in (ROOT / "examples").iterdir() if p.is_dir()):
         yield folder.name, content(folder / "node.bin"), content(folder / "cert.bin")
     names = (DATA.parent / "args").read_text().splitlines()

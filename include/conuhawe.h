@@ -51,13 +51,13 @@ enum {
 
     /* certificate; places: file for 11 to 14, constraint for 15, line for 16 to 20 and 22, base or step for 21 */
     CONUHAWE_CERTIFICATE_LENGTH = 11,
-    CONUHAWE_CERTIFICATE_FIXED_BYTES = 12,
-    CONUHAWE_CERTIFICATE_COUNTS = 13,
+    CONUHAWE_CERTIFICATE_FIXED_BYTES = 12, /* also any version but 2, version 1 too */
+    CONUHAWE_CERTIFICATE_COUNTS = 13, /* the depth, 1 to 8, or the count of constraints */
     CONUHAWE_CERTIFICATE_DISTANCE = 14,
     CONUHAWE_CONSTRAINT_SHAPE = 15,
     CONUHAWE_LINE_SHAPE = 16,
     CONUHAWE_EQUATION_LINE = 17, /* each constraint may be written times one whole number of at least 1 */
-    CONUHAWE_PROPERTY_LINE = 18,
+    CONUHAWE_PROPERTY_LINE = 18, /* the base's says that the property fails at one of the instants 0 to depth */
     CONUHAWE_JOIN_LINE = 19,
     CONUHAWE_ARITHMETIC_LINE = 20,
     CONUHAWE_NO_EMPTY_LINE = 21,
@@ -100,8 +100,13 @@ typedef struct conuhawe_session {
  * operands are needed now, except b of operator 13. The index of 23 is the lowest record never placed. */
 conuhawe_answer conuhawe_read(const uint8_t *node, size_t node_length);
 
-/* Checks a certificate for a node file: rules 1 to 8 and 23 for the node, then 11 to 22. Accepted: value[0] is the depth, value[1] and
- * value[2] are the trailer's counts of base lines and step lines, and the node's property holds at every instant on all inputs. */
+/* Checks a certificate, of version 2, for a node file: rules 1 to 8 and 23 for the node, then 11 to 22. Accepted: value[0] is the
+ * depth, value[1] and value[2] are the trailer's counts of base lines and step lines, and the node's property holds at every instant on
+ * all inputs.
+ *
+ * Of depth k, the base covers instants 0 to k, and the step is about any k + 1 instants in a row that do not begin at instant 0: at its
+ * first offset operator 12 is b, and operator 13 has no clause. A certificate of version 1 covered one instant less; it is refused
+ * with 12. */
 conuhawe_answer conuhawe_check(const uint8_t *node, size_t node_length, const uint8_t *certificate, size_t certificate_length);
 
 /* Begins a session on a node file, checked as by conuhawe_read and answered the same. Accepted: the record is set to the node, before
@@ -128,7 +133,8 @@ conuhawe_answer conuhawe_ranges(const uint8_t *node, size_t node_length, const i
 /* How many leading bytes of a node file are its note; 0 where one of rules 1 to 8 and 23 refuses the file. Never more than its length. */
 size_t conuhawe_node_note(const uint8_t *node, size_t node_length);
 
-/* How many leading bytes of a certificate are its note; 0 where rules 11 to 14 refuse the file. Never more than its length. */
+/* How many leading bytes of a certificate are its note; 0 where rules 11 to 14 refuse the file, so for every version but 2. Never more
+ * than its length. */
 size_t conuhawe_certificate_note(const uint8_t *certificate, size_t certificate_length);
 
 #ifdef __cplusplus

@@ -63,13 +63,13 @@ static void check_files(file node, file cert)
 {
     uint8_t *n = block(node, 0), *c = block(cert, 0);
     expect("read", conuhawe_read(n, node.length), 0, 0, 0, 6, 5, 0);
-    expect("check", conuhawe_check(n, node.length, c, cert.length), 0, 0, 0, 1, 12, 12);
+    expect("check", conuhawe_check(n, node.length, c, cert.length), 0, 0, 0, 1, 23, 12);
     expect("no node", conuhawe_check(n, 0, c, cert.length), CONUHAWE_NODE_LENGTH, CONUHAWE_FILE, 0, 0, 0, 0);
     expect("no certificate", conuhawe_check(n, node.length, c, 0), CONUHAWE_CERTIFICATE_LENGTH, CONUHAWE_FILE, 0, 0, 0, 0);
     n[16 * 3] = 16;
     expect("operator 16", conuhawe_read(n, node.length), CONUHAWE_RECORD_SHAPE, CONUHAWE_RECORD, 3, 0, 0, 0);
     n[16 * 3] = 3;
-    /* line 1, {5, 4} of stream 5's equation, becomes {!5, 4} */
+    /* line 1, {5, 4} of stream 5's equation at offset 0, becomes {!5, 4} */
     c[80 * 1 + 8] ^= 1;
     expect("equation", conuhawe_check(n, node.length, c, cert.length), CONUHAWE_EQUATION_LINE, CONUHAWE_LINE, 1, 0, 0, 0);
     c[80 * 1 + 8] ^= 1;
@@ -90,8 +90,30 @@ static void check_notes(file node, file cert)
     expect_true("certificate's note", conuhawe_certificate_note(c, 7 + cert.length) == 7);
     expect_true("no note", conuhawe_node_note(n + 5, node.length) == 0);
     expect_true("a refused file's note", conuhawe_certificate_note(c, 7) == 0);
-    expect("check with notes", conuhawe_check(n, 5 + node.length, c, 7 + cert.length), 0, 0, 0, 1, 12, 12);
+    expect("check with notes", conuhawe_check(n, 5 + node.length, c, 7 + cert.length), 0, 0, 0, 1, 23, 12);
     free(n);
+    free(c);
+}
+
+/* Of the certificate with its version byte set: only version 2 is read, and another has no note. */
+static void check_versions(file node, file cert)
+{
+    uint8_t *c = block(cert, 7);
+    size_t length = 7 + cert.length;
+    for (unsigned version = 0; version < 256; version++) {
+        c[length - 14] = version;
+        conuhawe_answer answer = conuhawe_check(node.bytes, node.length, c, length);
+        if (version == 2)
+            expect("version 2", answer, 0, 0, 0, 1, 23, 12);
+        else
+            expect("another version", answer, CONUHAWE_CERTIFICATE_FIXED_BYTES, CONUHAWE_FILE, 0, 0, 0, 0);
+        expect_true("a version's note", conuhawe_certificate_note(c, length) == (version == 2 ? 7 : 0));
+    }
+    c[length - 14] = 2;
+    /* line 0, {!5, !5 one instant later}, becomes {!5}, as version 1 had it */
+    c[7 + 1] = 1;
+    c[7 + 10] = 0;
+    expect("instant 0 alone", conuhawe_check(node.bytes, node.length, c, length), CONUHAWE_PROPERTY_LINE, CONUHAWE_LINE, 0, 0, 0, 0);
     free(c);
 }
 
@@ -266,6 +288,7 @@ int main(int argc, char **argv)
     file node = read_file(argv[1]), cert = read_file(argv[2]);
     check_files(node, cert);
     check_notes(node, cert);
+    check_versions(node, cert);
     check_session(node);
     check_orders(node, cert);
     check_ranges();

@@ -66,7 +66,7 @@ pub struct Node {
 
 /// What an accepted certificate's answer carries, as its trailer has it.
 ///
-/// It prints as `accepted depth 1 base 12 step 12`.
+/// It prints as `accepted depth 1 base 23 step 12`.
 #[derive(Clone, Copy, Debug, PartialEq, Eq, Hash)]
 pub struct Accepted {
     /// The depth of the induction.

@@ -21,13 +21,16 @@ pub fn read(node: &[u8]) -> Result<Node, Refusal> {
     unsafe { sys::conuhawe_read(node.as_ptr(), node.len()) }.node()
 }
 
-/// Checks a certificate for a node file. Where it is accepted, the node's
-/// property holds at every instant, whatever the inputs.
+/// Checks a certificate, of version 2, for a node file. Where it is accepted,
+/// the node's property holds at every instant, whatever the inputs.
+///
+/// Of depth k, the base covers instants 0 to k, and the step any k + 1 instants
+/// in a row after the first.
 ///
 /// # Errors
 ///
 /// The first rule that is broken: of 1 to 8 and 23 for the node, then of 11 to
-/// 22.
+/// 22. A certificate of another version, 1 too, is refused with 12.
 pub fn check(node: &[u8], certificate: &[u8]) -> Result<Accepted, Refusal> {
     // SAFETY: as above.
     unsafe {
@@ -70,7 +73,7 @@ pub fn node_note(node: &[u8]) -> &[u8] {
 }
 
 /// The note of a certificate: the bytes before its constraints and lines.
-/// Empty where rules 11 to 14 refuse the file.
+/// Empty where rules 11 to 14 refuse the file, so for every version but 2.
 pub fn certificate_note(certificate: &[u8]) -> &[u8] {
     // SAFETY: as above.
     let length = unsafe { sys::conuhawe_certificate_note(certificate.as_ptr(), certificate.len()) };

@@ -11,7 +11,7 @@
 //! let node = std::fs::read("node.bin")?;
 //! let certificate = std::fs::read("cert.bin")?;
 //! let accepted = conuhawe::check(&node, &certificate)?;
-//! println!("{accepted}"); // accepted depth 1 base 12 step 12
+//! println!("{accepted}"); // accepted depth 1 base 23 step 12
 //!
 //! let mut session = conuhawe::Session::begin(&node)?;
 //! let mut values = [0; 6];

@@ -28,7 +28,7 @@ fn the_property_may_come_first() {
     let certificate = other.certificate(&two_bands_certificate()).bytes();
     let accepted = Accepted {
         depth: 1,
-        base: 12,
+        base: 23,
         step: 12,
     };
     assert_eq!(check(&node, &certificate), Ok(accepted));

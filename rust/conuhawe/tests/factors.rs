@@ -5,7 +5,7 @@ use reference::build::{orders, CertificateFile, Constraint};
 
 const ACCEPTED: Accepted = Accepted {
     depth: 1,
-    base: 12,
+    base: 23,
     step: 12,
 };
 

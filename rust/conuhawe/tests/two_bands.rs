@@ -8,7 +8,7 @@ use conuhawe::{certificate_note, check, node_note, read, Accepted, Node, Place, 
 
 const ACCEPTED: Accepted = Accepted {
     depth: 1,
-    base: 12,
+    base: 23,
     step: 12,
 };
 
@@ -25,7 +25,7 @@ fn the_pair_is_accepted() {
     };
     assert_eq!(read(&node), Ok(expected));
     assert_eq!(check(&node, &certificate), Ok(ACCEPTED));
-    assert_eq!(ACCEPTED.to_string(), "accepted depth 1 base 12 step 12");
+    assert_eq!(ACCEPTED.to_string(), "accepted depth 1 base 23 step 12");
 }
 
 #[test]
@@ -64,12 +64,38 @@ fn a_refusal_names_the_line() {
 fn a_refusal_names_the_part() {
     let (node, certificate) = two_bands();
     // The lines that close a part: the last of each.
-    for (line, place) in [(11, Place::Base), (23, Place::Step)] {
+    for (line, place) in [(22, Place::Base), (34, Place::Step)] {
         let mut certificate = certificate.clone();
         // It is no longer empty: a join may have more literals.
         certificate[80 * line + 1] = 1;
         certificate[80 * line + 8] = 10;
         assert_eq!(check(&node, &certificate), refused(21, place));
+    }
+}
+
+#[test]
+fn the_base_covers_offset_1() {
+    let (node, mut certificate) = two_bands();
+    // Line 0 is {!5@0, !5@1}; version 1 had {!5@0}.
+    assert_eq!(certificate[..12], [2, 2, 0, 0, 0, 0, 0, 0, 11, 0, 139, 0]);
+    certificate[1] = 1;
+    certificate[10] = 0;
+    assert_eq!(check(&node, &certificate), refused(18, Place::Line(0)));
+}
+
+#[test]
+fn another_version_is_refused_and_has_no_note() {
+    let (node, certificate) = two_bands();
+    let mut certificate = with_note(b"by induction", &certificate);
+    let version = certificate.len() - 14;
+    for byte in 0..=255 {
+        certificate[version] = byte;
+        let (answer, note) = match byte {
+            2 => (Ok(ACCEPTED), &b"by induction"[..]),
+            _ => (refused(12, Place::File), &b""[..]),
+        };
+        assert_eq!(check(&node, &certificate), answer, "version {byte}");
+        assert_eq!(certificate_note(&certificate), note, "version {byte}");
     }
 }
 

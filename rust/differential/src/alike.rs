@@ -4,6 +4,7 @@
 use crate::cuts::arithmetic;
 use crate::draft::Draft;
 use crate::linear::Linear;
+use crate::narrow;
 use crate::prove::refute;
 use crate::random::Random;
 use reference::build::{opp, CertificateFile, Line, NodeFile, Record, BOOL, INT};
@@ -48,7 +49,8 @@ pub fn alike(random: &mut Random, literals: usize, terms: usize) -> Alike {
     let groups: Vec<Group> = drawn.collect::<Option<_>>().expect("room for all groups");
     let [mut with_sums, mut with_cuts] = [draft.clone(), draft.clone()];
     let lines = draft.room();
-    for _ in 0..lines {
+    // Version 1 had room for more: what is drawn after these stays the same.
+    for _ in 0..lines + narrow::MORE {
         let line = cut(random, &groups, literals - 1);
         with_cuts.add(line);
         with_sums.add(arithmetic(line));

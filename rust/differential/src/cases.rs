@@ -2,6 +2,7 @@
 //! damaged copies of both.
 
 use crate::damage::{damage, Layout};
+use crate::delays::delayed_arrow;
 use crate::draft::{Draft, MAX_BLOCKS};
 use crate::forge;
 use crate::grow::{grow, Mix};
@@ -9,7 +10,7 @@ use crate::nodes::{self, Taste};
 use crate::pool::Certified;
 use crate::random::Random;
 use crate::reorder::{looped, renumbering};
-use crate::{miscuts, misfactors, prove};
+use crate::{miscuts, misfactors, miswindows, prove};
 use reference::build::{CertificateFile, NodeFile};
 use reference::certificate::Part;
 
@@ -102,31 +103,53 @@ fn imported(random: &mut Random, draft: &mut Draft, found: &CertificateFile) -> 
 
 /// A random node with a property that unit steps prove, and the proof.
 fn proved(random: &mut Random) -> (NodeFile, CertificateFile, Expected) {
+    let (node, certificate) = proof_with(random, |draft| draft);
+    (node, certificate, Expected::Accepted)
+}
+
+/// The same by version 1's windows.
+pub fn of_version_1(random: &mut Random) -> Certified {
+    proof_with(random, |draft| draft.of_version_1())
+}
+
+/// A random node with a property that unit steps prove, and the proof, its
+/// draft changed before it is written.
+fn proof_with(random: &mut Random, changed: fn(Draft) -> Draft) -> Certified {
     loop {
         let depth = random.within(1, 8) as u8;
-        let taste = Taste {
-            size: random.of([3, 6, 10, 16, 64]),
-            ints: 5,
-            inputs: random.of([0, 1, 2]),
-            extremes: true,
-            large: random.once_in(4),
-            truth: false,
-            reordered: random.once_in(3),
-        };
-        let mut node = nodes::node(random, taste);
-        let provable = prove::provable(&node, depth);
-        let Some(property) = random.pick(&provable) else {
+        let Some(node) = provable(random, depth) else {
             continue;
         };
-        node.property = property;
-        if let Some(certificate) = proof(random, &node, depth) {
-            return (node, certificate, Expected::Accepted);
+        let draft = changed(Draft::drawn(random, &node, depth));
+        if let Some(certificate) = proof(random, draft) {
+            return (node, certificate);
         }
     }
 }
 
-fn proof(random: &mut Random, node: &NodeFile, depth: u8) -> Option<CertificateFile> {
-    let mut draft = Draft::drawn(random, node, depth);
+/// A random node with a property that unit steps prove at this depth: now and
+/// then one that needs operator 12 at the step's first offset.
+fn provable(random: &mut Random, depth: u8) -> Option<NodeFile> {
+    let taste = Taste {
+        size: random.of([3, 6, 10, 16, 64]),
+        ints: 5,
+        inputs: random.of([0, 1, 2]),
+        extremes: true,
+        large: random.once_in(4),
+        truth: false,
+        reordered: random.once_in(3),
+    };
+    let mut node = nodes::node(random, taste);
+    if random.once_in(4) {
+        let delayed = delayed_arrow(random, &node, depth)?;
+        let provable = prove::provable(&delayed, depth);
+        return provable.contains(&delayed.property).then_some(delayed);
+    }
+    node.property = random.pick(&prove::provable(&node, depth))?;
+    Some(node)
+}
+
+fn proof(random: &mut Random, mut draft: Draft) -> Option<CertificateFile> {
     let count = padding(random).min(60);
     grow(random, &mut draft, Mix::ALL, count);
     prove::refute(&mut draft)?;
@@ -169,7 +192,8 @@ pub fn among_cuts(random: &mut Random, way: Option<&miscuts::Way>) -> Option<Cer
     let spoil = way.map(|way| {
         move |random: &mut Random, draft: &mut Draft| miscuts::spoiled(random, draft, way)
     });
-    among(random, Mix::CUTS, None, spoil)
+    let depth = random.within(1, 8) as u8;
+    among(random, depth, Mix::CUTS, None, spoil)
 }
 
 /// A proof among equations, with constraints multiplied through in all; a way
@@ -179,7 +203,18 @@ pub fn among_factors(random: &mut Random, way: Option<&misfactors::Way>) -> Opti
         move |random: &mut Random, draft: &mut Draft| misfactors::spoiled(random, draft, way)
     });
     let factors = Random::new(random.bits());
-    among(random, Mix::EQUATIONS, Some(factors), spoil)
+    let depth = random.within(1, 8) as u8;
+    among(random, depth, Mix::EQUATIONS, Some(factors), spoil)
+}
+
+/// A proof among equations; a way spoils one more.
+pub fn among_windows(random: &mut Random, way: Option<&miswindows::Way>) -> Option<Certified> {
+    let spoil = way.map(|way| {
+        move |random: &mut Random, draft: &mut Draft| miswindows::spoiled(random, draft, way)
+    });
+    let any = random.within(1, 8) as u8;
+    let depth = way.and_then(|way| way.depth).unwrap_or(any);
+    among(random, depth, Mix::EQUATIONS, None, spoil)
 }
 
 /// A proof with other lines before and after it in both parts, and a spoiled
@@ -187,6 +222,7 @@ pub fn among_factors(random: &mut Random, way: Option<&misfactors::Way>) -> Opti
 /// is nothing to spoil.
 fn among(
     random: &mut Random,
+    depth: u8,
     mix: Mix,
     factors: Option<Random>,
     spoil: Option<impl Fn(&mut Random, &mut Draft) -> Option<u16>>,
@@ -197,7 +233,7 @@ fn among(
         ..Taste::any(random)
     };
     let node = nodes::node(random, taste);
-    let mut draft = Draft::new(&node, random.within(1, 8) as u8);
+    let mut draft = Draft::new(&node, depth);
     draft.factors = factors;
     let part = random.of([Part::Base, Part::Step]);
     for own in [Part::Base, Part::Step] {

@@ -1,5 +1,5 @@
-//! 01's list of clauses, written once more and over the writers' records:
-//! what is built from it and refused shows a difference.
+//! The list of clauses, written once more and over the writers' records: what
+//! is built from it and refused shows a difference.
 
 use crate::linear::{Linear, Variable};
 use reference::build::{lit, opp, Constraint, Record, BOOL};
@@ -33,12 +33,13 @@ pub fn clauses(records: &[Record], part: Part, p: u16, q: u8) -> Vec<Vec<Item>> 
     }
 }
 
-/// The operand of 12 and 13 that is chosen, if there is one.
+/// The operand of 12 and 13 that is chosen, if there is one: the step begins
+/// after the first instant, and what 13 reads at its offset 0 lies before it.
 fn chosen(record: &Record, part: Part, q: u8) -> Option<Variable> {
     match (part, record.operator, q) {
         (Part::Base, _, 0) => Some((0, record.a)),
-        (Part::Step, _, 0) => None,
         (_, 12, _) => Some((q, record.b)),
+        (_, _, 0) => None,
         _ => Some((q - 1, record.b)),
     }
 }

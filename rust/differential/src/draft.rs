@@ -8,6 +8,7 @@ use reference::build::proof::resolvent;
 use reference::build::{lit, on, opp, CertificateFile, Constraint, Line, NodeFile};
 use reference::certificate::Part;
 use std::collections::HashMap;
+use std::ops::RangeInclusive;
 
 /// As many blocks of 80 bytes as the largest file has room for.
 pub const MAX_BLOCKS: usize = 818;
@@ -26,6 +27,11 @@ pub struct Draft<'a> {
     pub node: &'a NodeFile,
     /// Its depth.
     pub depth: u8,
+    /// The highest offset of its base: the depth, or one less where it is
+    /// forged or made whole later.
+    pub base_end: u8,
+    /// Whether its step has operator 12 at offset 0.
+    first_arrows: bool,
     /// Its constraints.
     pub constraints: Vec<Constraint>,
     /// How many constraints it may have.
@@ -46,6 +52,8 @@ impl<'a> Draft<'a> {
         Draft {
             node,
             depth,
+            base_end: depth,
+            first_arrows: true,
             constraints: Vec::new(),
             limit: MAX_CONSTRAINTS,
             factors: None,
@@ -61,6 +69,14 @@ impl<'a> Draft<'a> {
         let mut draft = Draft::new(node, depth);
         draft.factors = random.once_in(2).then(|| Random::new(random.bits()));
         draft
+    }
+
+    /// By version 1's windows: a base that ends at k − 1, and a step without
+    /// operator 12 at offset 0.
+    pub fn of_version_1(mut self) -> Self {
+        self.base_end = self.depth - 1;
+        self.first_arrows = false;
+        self
     }
 
     /// The part being written.
@@ -82,8 +98,17 @@ impl<'a> Draft<'a> {
     /// The highest offset of an equation in this part.
     pub fn last_offset(&self) -> u8 {
         match self.part() {
-            Part::Base => self.depth - 1,
+            Part::Base => self.base_end,
             Part::Step => self.depth,
+        }
+    }
+
+    /// The offsets at which the property has to be shown: all of the base, the
+    /// last of the step.
+    pub fn shown(&self) -> RangeInclusive<u8> {
+        match self.part() {
+            Part::Base => 0..=self.base_end,
+            Part::Step => self.depth..=self.depth,
         }
     }
 
@@ -143,7 +168,7 @@ impl<'a> Draft<'a> {
     /// constraints are written multiplied through, lines follow that bring
     /// them back: the last has the clause's own literals.
     pub fn equation(&mut self, p: u16, q: u8, r: usize) -> Option<u16> {
-        let listed = clauses(&self.node.records, self.part(), p, q);
+        let listed = self.clauses(p, q);
         let (mut literals, mut multiples) = (Vec::new(), Vec::new());
         for item in listed.into_iter().nth(r)? {
             literals.push(match item {
@@ -160,6 +185,16 @@ impl<'a> Draft<'a> {
         multiples.try_fold(line, |line, multiple| multiple.struck(self, line))
     }
 
+    /// The clauses of stream p at offset q of this part.
+    fn clauses(&self, p: u16, q: u8) -> Vec<Vec<Item>> {
+        let record = self.node.records.get(usize::from(p));
+        let is_arrow = record.is_some_and(|record| record.operator == 12);
+        if is_arrow && q == 0 && self.part() == Part::Step && !self.first_arrows {
+            return Vec::new();
+        }
+        clauses(&self.node.records, self.part(), p, q)
+    }
+
     /// A multiple of a defined constraint, or itself.
     fn multiple(&mut self, defined: Constraint) -> Option<Multiple> {
         let drawn = self.factors.as_mut().and_then(|random| {
@@ -173,11 +208,15 @@ impl<'a> Draft<'a> {
     pub fn property(&mut self, q: u8) -> Option<u16> {
         let holds = |q: u8| lit(self.node.property, q.into());
         let literals: Vec<u16> = match self.part() {
-            Part::Base => (0..self.depth).map(|q| opp(holds(q))).collect(),
             Part::Step if q < self.depth => vec![holds(q)],
-            Part::Step => vec![opp(holds(q))],
+            _ => self.shown().map(|q| opp(holds(q))).collect(),
         };
         self.add(Line::property(q.into(), &literals))
+    }
+
+    /// Adds the line that the property fails where it has to be shown.
+    pub fn fails(&mut self) -> Option<u16> {
+        self.property(*self.shown().start())
     }
 
     /// Adds the join of p and q on r, each literal once, if twelve hold it.

@@ -1,15 +1,16 @@
-//! 01's false turns, a cut below the floor, a bound or a coefficient that is
-//! not multiplied with the other and a lesser taken for a greater: whole
-//! arguments for properties that fail, each right but for one turn, and single
-//! lines that take such a turn.
+//! 01's false turns, those of [`windows`], a cut below the floor, a bound or a
+//! coefficient that is not multiplied with the other and a lesser taken for a
+//! greater: whole arguments for properties that fail, each right but for one
+//! turn, and single lines that take such a turn.
 
 use crate::clauses::{clauses, Item};
+use crate::delays::delay;
 use crate::draft::Draft;
 use crate::grow::{grow, Mix};
 use crate::linear::Linear;
 use crate::prove::refute;
 use crate::random::Random;
-use crate::{miscuts, misfactors};
+use crate::{miscuts, misfactors, windows};
 use reference::build::proof::resolvent;
 use reference::build::{lit, multiples, opp, CertificateFile, Line, NodeFile, Record, BOOL, INT};
 use reference::certificate::Part;
@@ -17,19 +18,23 @@ use reference::certificate::Part;
 /// A node, a forged certificate for it, and the number that refuses it.
 pub type Forgery = (NodeFile, CertificateFile, u8);
 
-/// One of the seven turns at some depth, with other right lines around it.
+/// One of the nine turns at some depth, with other right lines around it.
 pub fn forgery(random: &mut Random) -> Forgery {
     let k = random.within(1, 8) as u8;
-    let (node, turn, number): (_, Turn, u8) = match random.below(7) {
-        0 => (first_instant_node(random, k), first_instant, 17),
-        1 => (never_equal_node(), never_equal, 20),
-        2 => (input_node(), both_signs, 19),
-        3 => (multiple_node(random), below_the_floor, 22),
-        4 => (one_less_node(random), not_alike, 17),
-        5 => (one_sided_node(random), as_greater, 17),
+    let (node, turn, number): (_, Turn, u8) = match random.below(9) {
+        0 => (windows::first_node(random, k), windows::first, 17),
+        1 => (windows::before_node(k), windows::before, 17),
+        2 => (windows::short_node(k), windows::short, 18),
+        3 => (never_equal_node(), never_equal, 20),
+        4 => (input_node(), both_signs, 19),
+        5 => (multiple_node(random), below_the_floor, 22),
+        6 => (one_less_node(random), not_alike, 17),
+        7 => (one_sided_node(random), as_greater, 17),
         _ => (delayed_node(k), base_line_cited, 19),
     };
     let mut draft = Draft::drawn(random, &node, k);
+    // 18 is that of a base that ends one offset early.
+    draft.base_end -= u8::from(number == 18);
     let padding = random.of([0, 0, 3, 20]);
     grow(random, &mut draft, Mix::ALL, padding);
     let kept = turn(&mut draft);
@@ -53,40 +58,6 @@ fn turn_step(draft: &mut Draft, turn: Turn, kept: Option<u16>) {
     }
 }
 
-/// 2 is true -> false (or pre false) and k delays of it, true to begin with,
-/// make the property, which fails at instant k + 1.
-fn first_instant_node(random: &mut Random, k: u8) -> NodeFile {
-    let arrow = random.of([Record::arrow, Record::arrow_pre]);
-    let mut records = vec![
-        Record::constant(BOOL, 1),
-        Record::constant(BOOL, 0),
-        arrow(BOOL, 0, 1),
-    ];
-    let delays = (0..u16::from(k)).map(|j| Record::arrow_pre(BOOL, 0, 2 + j));
-    records.extend(delays);
-    NodeFile::new(records, 2 + u16::from(k))
-}
-
-/// "treating step offset 0 as instant 0".
-fn first_instant(draft: &mut Draft) -> Option<u16> {
-    if draft.part() == Part::Base {
-        refute(draft)?;
-        return None;
-    }
-    let mut line = draft.property(draft.depth)?;
-    for j in (1..=draft.depth).rev() {
-        let stream = 2 + u16::from(j);
-        let before = draft.equation(stream, j, 1)?;
-        line = draft.strike(line, opp(lit(stream, j.into())), before)?;
-    }
-    let starts = [lit(2, 0), opp(lit(0, 0))];
-    let forged = draft.add(Line::equation(2, 0, 1, &starts))?;
-    line = draft.strike(line, opp(lit(2, 0)), forged)?;
-    let truth = draft.equation(0, 0, 0)?;
-    draft.strike(line, opp(lit(0, 0)), truth)?;
-    None
-}
-
 /// 0 and 1 are int inputs, 5 says that they are never equal.
 fn never_equal_node() -> NodeFile {
     let records = vec![
@@ -102,12 +73,8 @@ fn never_equal_node() -> NodeFile {
 
 /// "dropping the −1 from a negated constraint": u ≤ v and v ≤ u would clash.
 fn never_equal(draft: &mut Draft) -> Option<u16> {
-    let (offsets, q) = match draft.part() {
-        Part::Base => (0..draft.depth, 0),
-        Part::Step => (draft.depth..draft.depth + 1, draft.depth),
-    };
-    let mut left = draft.property(q)?;
-    for q in offsets {
+    let mut left = draft.fails()?;
+    for q in draft.shown() {
         let at = |stream| lit(stream, q.into());
         let either = draft.equation(5, q, 0)?;
         left = draft.strike(left, opp(at(5)), either)?;
@@ -132,12 +99,8 @@ fn input_node() -> NodeFile {
 
 /// "a join that strikes both signs from both clauses".
 fn both_signs(draft: &mut Draft) -> Option<u16> {
-    let (offsets, q) = match draft.part() {
-        Part::Base => (0..draft.depth, 0),
-        Part::Step => (draft.depth..draft.depth + 1, draft.depth),
-    };
-    let mut left = draft.property(q)?;
-    for q in offsets {
+    let mut left = draft.fails()?;
+    for q in draft.shown() {
         let (either, neither) = (draft.equation(1, q, 0)?, draft.equation(1, q, 1)?);
         let both = draft.join(either, neither, lit(1, q.into()))?;
         let struck = lit(0, q.into());
@@ -155,10 +118,9 @@ fn delayed_node(k: u8) -> NodeFile {
         Record::constant(BOOL, 1),
         Record::arrow_pre(BOOL, 0, 1),
     ];
-    let delays = (0..u16::from(k)).map(|j| Record::arrow_pre(BOOL, 0, 2 + j));
-    records.extend(delays);
-    records.push(Record::not(2 + u16::from(k)));
-    NodeFile::new(records, 3 + u16::from(k))
+    let last = delay(&mut records, 0, k);
+    records.push(Record::not(last));
+    NodeFile::new(records, 1 + last)
 }
 
 /// "a step line citing a base line": {!2} at offset 0 is the base's.
@@ -220,14 +182,10 @@ fn one_less_node(random: &mut Random) -> NodeFile {
 /// is positive and else the bound: that says too much, and the three
 /// constraints clash.
 fn not_alike(draft: &mut Draft) -> Option<u16> {
-    let (offsets, q) = match draft.part() {
-        Part::Base => (0..draft.depth, 0),
-        Part::Step => (draft.depth..draft.depth + 1, draft.depth),
-    };
     let (k, factor) = (draft.node.records[0].k.into(), i128::from(draft.depth) + 1);
     let (coefficient, bound) = if k > 0 { (factor, k) } else { (1, factor * k) };
-    let mut left = draft.property(q)?;
-    for q in offsets {
+    let mut left = draft.fails()?;
+    for q in draft.shown() {
         let forged = Linear::bounded(bound)
             .plus(coefficient, (q, 0))
             .constraint()?;
@@ -261,12 +219,8 @@ fn one_sided_node(random: &mut Random) -> NodeFile {
 /// The first clause of 14 taken for that of 15, or the other way round: it
 /// says what the property says.
 fn as_greater(draft: &mut Draft) -> Option<u16> {
-    let (offsets, q) = match draft.part() {
-        Part::Base => (0..draft.depth, 0),
-        Part::Step => (draft.depth..draft.depth + 1, draft.depth),
-    };
-    let mut left = draft.property(q)?;
-    for q in offsets {
+    let mut left = draft.fails()?;
+    for q in draft.shown() {
         let forged = mirrored(draft, 2, q, 0)?;
         let (ordered, either) = (draft.clause(forged)[0], draft.equation(3, q, 1)?);
         let reversed = draft.clause(either)[1];
@@ -287,7 +241,7 @@ fn mirrored(draft: &mut Draft, p: u16, q: u8, r: usize) -> Option<u16> {
 }
 
 /// Adds an equation line with these items, right or wrong.
-fn written(draft: &mut Draft, p: u16, q: u8, r: usize, items: &[Item]) -> Option<u16> {
+pub fn written(draft: &mut Draft, p: u16, q: u8, r: usize, items: &[Item]) -> Option<u16> {
     let mut literals = Vec::new();
     for item in items {
         literals.push(match item {
@@ -300,14 +254,15 @@ fn written(draft: &mut Draft, p: u16, q: u8, r: usize, items: &[Item]) -> Option
 
 /// Adds a line that takes a false turn, if the draft has what it needs.
 pub fn forged_line(random: &mut Random, draft: &mut Draft) -> Option<u16> {
-    match random.below(8) {
+    match random.below(9) {
         0 => as_first_instant(random, draft),
-        1 => as_zero(random, draft),
-        2 => as_both_signs(random, draft),
-        3 => as_base_line(random, draft),
-        4 => miscuts::miscut(random, draft).map(|(line, _)| line),
-        5 => misfactors::misfactor(random, draft),
-        6 => as_mirrored(random, draft),
+        1 => as_later(random, draft),
+        2 => as_zero(random, draft),
+        3 => as_both_signs(random, draft),
+        4 => as_base_line(random, draft),
+        5 => miscuts::miscut(random, draft).map(|(line, _)| line),
+        6 => misfactors::misfactor(random, draft),
+        7 => as_mirrored(random, draft),
         _ => as_other_sign(random, draft),
     }
 }
@@ -319,6 +274,14 @@ fn as_first_instant(random: &mut Random, draft: &mut Draft) -> Option<u16> {
     written(draft, p, 0, r, &listed[r])
 }
 
+/// Clause r of an operator 12 or 13 at offset 0, as if it were 12 and offset 0
+/// were no first instant.
+fn as_later(random: &mut Random, draft: &mut Draft) -> Option<u16> {
+    let (p, r) = (one_of(random, draft, [12, 13])?, random.below(2));
+    let listed = windows::as_later(&draft.node.records, p);
+    written(draft, p, 0, r, &listed[r])
+}
+
 /// A clause of an operator 14 as if it were 15, or of a 15 as if it were 14.
 fn as_mirrored(random: &mut Random, draft: &mut Draft) -> Option<u16> {
     let p = one_of(random, draft, [14, 15])?;
@@ -326,8 +289,12 @@ fn as_mirrored(random: &mut Random, draft: &mut Draft) -> Option<u16> {
     mirrored(draft, p, q, random.below(3))
 }
 
-/// A stream of one of two operators, if there is one.
-fn one_of(random: &mut Random, draft: &Draft, operators: [u8; 2]) -> Option<u16> {
+/// A stream of one of these operators, if there is one.
+pub fn one_of<const N: usize>(
+    random: &mut Random,
+    draft: &Draft,
+    operators: [u8; N],
+) -> Option<u16> {
     let numbered = (0u16..).zip(&draft.node.records);
     let fitting = numbered.filter(|(_, record)| operators.contains(&record.operator));
     random.pick(&fitting.map(|(p, _)| p).collect::<Vec<_>>())

@@ -4,6 +4,7 @@
 use crate::draft::{Draft, MAX_CONSTRAINTS};
 use crate::grow::{grow, Mix};
 use crate::listed::{self, Listed};
+use crate::narrow::made_whole;
 use crate::nodes::{self, Taste};
 use crate::prove::refute;
 use crate::random::Random;
@@ -101,7 +102,24 @@ pub fn certificate(
     kind: Kind,
     lines: usize,
 ) -> CertificateFile {
-    let mut draft = Draft::new(node, depth);
+    filled(random, Draft::new(node, depth), kind, lines)
+}
+
+/// The same with the lines that it had in version 1, so that runs from before
+/// and after measure alike.
+pub fn as_before(
+    random: &mut Random,
+    node: &NodeFile,
+    depth: u8,
+    kind: Kind,
+    lines: usize,
+) -> CertificateFile {
+    let draft = Draft::new(node, depth).of_version_1();
+    made_whole(node, &filled(random, draft, kind, lines))
+}
+
+/// Both parts refuted and filled.
+fn filled(random: &mut Random, mut draft: Draft, kind: Kind, lines: usize) -> CertificateFile {
     draft.limit = kind.constraints;
     refute(&mut draft).expect("room for a few lines");
     fill(random, &mut draft, kind.mix, lines / 2, 20);

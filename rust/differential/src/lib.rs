@@ -6,14 +6,15 @@
 //! * [`checker`] is what an implementation is compared by; [`by_reference`]
 //!   is `rust/reference`, [`twin`] a second path through any checker, and
 //!   `proved` (a feature) the proved library; [`checkers`] has them all.
-//! * [`nodes`], [`draft`], [`grow`], [`cuts`], [`factors`], [`prove`],
-//!   [`forge`], [`pool`] and [`passes`] generate; [`reorder`] puts records into
-//!   another order, or makes them lead back to themselves; [`damage`],
-//!   [`miscuts`] and [`misfactors`] spoil; [`cases`] mixes them. [`listed`]
-//!   generates nodes with tables of [`ranges`], [`misranges`] spoils the
-//!   tables. [`largest`] and [`alike`] generate what is measured.
+//! * [`nodes`], [`delays`], [`draft`], [`grow`], [`cuts`], [`factors`],
+//!   [`prove`], [`forge`], [`windows`], [`pool`] and [`passes`] generate;
+//!   [`reorder`] puts records into another order, or makes them lead back to
+//!   themselves; [`damage`], [`miscuts`], [`misfactors`] and [`miswindows`]
+//!   spoil; [`cases`] mixes them. [`listed`] generates nodes with tables of
+//!   [`ranges`], [`misranges`] spoils the tables. [`largest`], [`narrow`] and
+//!   [`alike`] generate what is measured.
 //! * [`compare`] compares, and prints seed and bytes where two differ;
-//!   [`tally`] counts what was met.
+//!   [`tally`] counts what was met, [`rests`] tells what a step rests on.
 //!
 //! A longer run, with a line on the way now and then:
 //!
@@ -39,6 +40,7 @@ pub mod clauses;
 pub mod compare;
 pub mod cuts;
 pub mod damage;
+pub mod delays;
 pub mod draft;
 pub mod evaluator;
 pub mod factors;
@@ -50,6 +52,8 @@ pub mod listed;
 pub mod miscuts;
 pub mod misfactors;
 pub mod misranges;
+pub mod miswindows;
+pub mod narrow;
 pub mod nodes;
 pub mod passes;
 pub mod pool;
@@ -59,5 +63,7 @@ pub mod proved;
 pub mod random;
 pub mod ranges;
 pub mod reorder;
+pub mod rests;
 pub mod tally;
 pub mod twin;
+pub mod windows;

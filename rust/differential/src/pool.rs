@@ -1,6 +1,7 @@
 //! Nodes with certificates that need more than unit steps: induction over
 //! ints and cases, found by the reference's search once a run, and cuts.
 
+use crate::delays::delay;
 use crate::nodes::{self, Taste};
 use crate::random::Random;
 use reference::build::proof::two_bands_node;
@@ -72,6 +73,8 @@ fn families(random: &mut Random) -> Vec<(NodeFile, Vec<u8>)> {
     for depth in 1..=8 {
         all.push((ring(depth), vec![depth]));
         all.push((int_ring(depth), vec![depth]));
+        all.push((late(depth), vec![depth]));
+        all.push((int_late(depth), vec![depth]));
     }
     all
 }
@@ -191,6 +194,34 @@ fn between() -> NodeFile {
         Record::at_most(2, 3),
     ];
     NodeFile::new(records, 4)
+}
+
+/// 4 is true, later 1 or not 1, and 4 was true k instants before: the step
+/// comes down to its offset 0.
+fn late(depth: u8) -> NodeFile {
+    let mut records = vec![
+        Record::constant(BOOL, 1),
+        Record::input(BOOL),
+        Record::not(1),
+        Record::or(1, 2),
+        Record::arrow(BOOL, 0, 3),
+    ];
+    let property = delay(&mut records, 0, depth);
+    NodeFile::new(records, property)
+}
+
+/// The same over ints: 3 is 0, later the greater of 0 and 1, and was not
+/// negative.
+fn int_late(depth: u8) -> NodeFile {
+    let mut records = vec![
+        Record::constant(INT, 0),
+        Record::input(INT),
+        Record::greater(0, 1),
+        Record::arrow(INT, 0, 2),
+    ];
+    let last = delay(&mut records, 0, depth);
+    records.push(Record::at_most(0, last));
+    NodeFile::new(records, last + 1)
 }
 
 /// A ring of delays, false to begin with: the first stays false.

@@ -1,6 +1,7 @@
 //! Whole refutations of nodes whose property follows by unit steps from
-//! constants, the base's first instant and the step's assumptions: every
-//! operator, both types, every depth. A proof holds only what it needs.
+//! constants, the base's first instant, the step's assumptions and that the
+//! step begins after the first instant: every operator, both types, every
+//! depth. A proof holds only what it needs.
 
 use crate::clauses::{clauses, Item};
 use crate::draft::Draft;
@@ -18,12 +19,8 @@ impl Known {
     /// last offset. Streams are gone through until nothing more follows, since
     /// their records stand in any order.
     pub fn of(node: &NodeFile, part: Part, depth: u8, assumed: Option<u16>) -> Self {
-        let last = match part {
-            Part::Base => depth - 1,
-            Part::Step => depth,
-        };
         let mut known = Known(Vec::new());
-        for q in 0..=last {
+        for q in 0..=depth {
             let mut row = vec![None; node.records.len()];
             if let Some(p) = assumed.filter(|_| part == Part::Step && q < depth) {
                 row[usize::from(p)] = Some(1);
@@ -71,9 +68,9 @@ impl Known {
             9 => Some(i128::from(a? <= b?)),
             11 if self.at((q, record.c))? == 1 => a,
             11 => b,
-            12 | 13 if q == 0 => a.filter(|_| part == Part::Base),
+            12 | 13 if q == 0 && part == Part::Base => a,
             12 => b,
-            13 => self.at((q - 1, record.b)),
+            13 => self.at((q.checked_sub(1)?, record.b)),
             14 => Some(a?.min(b?)),
             15 => Some(a?.max(b?)),
             _ => None,
@@ -118,7 +115,7 @@ pub fn provable(node: &NodeFile, depth: u8) -> Vec<u16> {
     let base = Known::of(node, Part::Base, depth, None);
     let numbered = (0u16..).zip(&node.records);
     let bools = numbered.filter(|(_, record)| record.type_byte == BOOL);
-    let based = bools.filter(|(p, _)| (0..depth).all(|q| base.at((q, *p)) == Some(1)));
+    let based = bools.filter(|(p, _)| (0..=depth).all(|q| base.at((q, *p)) == Some(1)));
     let stepped = based.filter(|(p, _)| {
         let step = Known::of(node, Part::Step, depth, Some(*p));
         step.at((depth, *p)) == Some(1)
@@ -149,11 +146,8 @@ struct Prover<'d, 'n> {
 pub fn refute(draft: &mut Draft) -> Option<()> {
     let (part, depth, property) = (draft.part(), draft.depth, draft.node.property);
     let known = Known::of(draft.node, part, depth, Some(property));
-    let offsets = match part {
-        Part::Base => 0..depth,
-        Part::Step => depth..depth + 1,
-    };
-    let mut left = draft.property(if part == Part::Base { 0 } else { depth })?;
+    let offsets = draft.shown();
+    let mut left = draft.fails()?;
     let units = HashMap::new();
     let mut prover = Prover {
         draft,

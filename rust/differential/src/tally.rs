@@ -1,10 +1,12 @@
 //! Counts of what was met.
 
-use crate::checker::{Place, Refusal, Verdict};
+use crate::checker::{Accepted, Place, Refusal, Verdict};
 use crate::damage::lines;
 use crate::factors::multiplied;
 use crate::nodes::records;
 use crate::reorder::is_reordered;
+use crate::rests;
+use reference::build::Record;
 use std::collections::BTreeMap;
 use std::fmt;
 
@@ -20,6 +22,12 @@ pub struct Tally {
     pub kinds: BTreeMap<u8, u64>,
     /// Equation lines that passed, by the operator of their stream.
     pub operators: BTreeMap<u8, u64>,
+    /// Equation lines of operator 12 at step offset 0 in accepted certificates.
+    pub arrows: u64,
+    /// Accepted certificates whose step rests on such a line, by depth.
+    pub rests: BTreeMap<u8, u64>,
+    /// Equation lines at base offset k in accepted certificates.
+    pub ends: u64,
     /// Accepted certificates with an equation line whose constraint is
     /// multiplied through, by a factor of at least 2.
     pub multiplied: u64,
@@ -39,11 +47,7 @@ impl Tally {
     pub fn verdict(&mut self, verdict: Verdict, node: &[u8], certificate: &[u8]) {
         self.passed(verdict, node, certificate);
         if let Ok(accepted) = verdict {
-            self.reordered += u64::from(is_reordered(&records(node)));
-            *self.depths.entry(accepted.depth).or_default() += 1;
-            let lines = u64::from(accepted.base) + u64::from(accepted.step);
-            self.longest = self.longest.max(lines);
-            self.multiplied += u64::from(multiplied(certificate).next().is_some());
+            self.accepted(accepted, node, certificate);
         }
         if let Err(Refusal {
             place: Place::Line(line),
@@ -53,6 +57,28 @@ impl Tally {
             self.deepest = self.deepest.max(line);
         }
         self.answer(verdict.map(|_| ()));
+    }
+
+    /// Counts what an accepted certificate has.
+    fn accepted(&mut self, accepted: Accepted, node: &[u8], certificate: &[u8]) {
+        let (depth, records) = (accepted.depth, records(node));
+        self.reordered += u64::from(is_reordered(&records));
+        *self.depths.entry(depth).or_default() += 1;
+        let lines = u64::from(accepted.base) + u64::from(accepted.step);
+        self.longest = self.longest.max(lines);
+        self.multiplied += u64::from(multiplied(certificate).next().is_some());
+        self.windows(depth, &records, certificate);
+    }
+
+    /// Counts lines at the ends of the parts' windows.
+    fn windows(&mut self, depth: u8, records: &[Record], certificate: &[u8]) {
+        let step = rests::equations(certificate, true);
+        let arrows = step.filter(|line| rests::is_first_arrow(records, line));
+        self.arrows += arrows.count() as u64;
+        let base = rests::equations(certificate, false);
+        self.ends += base.filter(|line| line.q == depth.into()).count() as u64;
+        let rests = rests::on_first_arrow(records, certificate);
+        *self.rests.entry(depth).or_default() += u64::from(rests);
     }
 
     /// Counts the lines before the one that is refused.
@@ -110,6 +136,11 @@ impl Tally {
     pub fn of_depth(&self, depth: u8) -> u64 {
         self.depths.get(&depth).copied().unwrap_or(0)
     }
+
+    /// How many of these had a step that rests on operator 12 at offset 0.
+    pub fn rests_of_depth(&self, depth: u8) -> u64 {
+        self.rests.get(&depth).copied().unwrap_or(0)
+    }
 }
 
 impl fmt::Display for Tally {
@@ -125,6 +156,9 @@ impl fmt::Display for Tally {
             let (longest, deepest) = (self.longest, self.deepest);
             write!(f, "; accepted by depth {:?}", self.depths)?;
             write!(f, ", {} with a factor", self.multiplied)?;
+            write!(f, ", {} lines of 12 at step offset 0", self.arrows)?;
+            write!(f, ", resting on one by depth {:?}", self.rests)?;
+            write!(f, ", {} equations at base offset k", self.ends)?;
             write!(f, ", lines passed by kind {:?}", self.kinds)?;
             write!(f, ", equations by operator {:?}", self.operators)?;
             write!(

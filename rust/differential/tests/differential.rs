@@ -14,7 +14,7 @@ use differential::pool::{pool, Certified};
 use differential::random::Random;
 use differential::reorder::renumbering;
 use differential::tally::Tally;
-use differential::{forge, largest, miscuts, misfactors, passes};
+use differential::{forge, largest, miscuts, misfactors, passes, rests};
 use reference::build::proof::{two_bands_certificate, two_bands_node};
 use reference::build::renumber::Renumbering;
 use reference::build::{multiples, CertificateFile};
@@ -124,6 +124,18 @@ fn pairs() {
     assert!(tally.longest > 500, "{tally}");
     assert!(tally.multiplied >= all / 40, "{tally}");
     assert!(tally.of(17) >= all / 40, "{tally}");
+    both_windows(&tally, all);
+}
+
+/// Accepted certificates use what the parts' windows have at their ends: at
+/// every depth the step rests on operator 12 at its first offset.
+fn both_windows(tally: &Tally, all: u64) {
+    assert!(tally.arrows >= all / 50, "{tally}");
+    assert!(tally.ends >= all / 4, "{tally}");
+    for depth in 1..=8 {
+        let rests = tally.rests_of_depth(depth);
+        assert!(rests >= all / 1_000, "depth {depth}: {tally}");
+    }
 }
 
 #[test]
@@ -168,6 +180,8 @@ fn every_field() {
         .expect("one");
     let held = POOL.iter().find(|pair| has_equation_of(pair, 14));
     let held = held.expect("one");
+    let late = POOL.iter().find(|pair| has_first_arrow(pair));
+    let late = late.expect("one");
     let two_bands = (two_bands_node(), two_bands_certificate());
     let by_cuts = (
         multiples::node(2, 7),
@@ -180,6 +194,7 @@ fn every_field() {
         &two_bands,
         counter,
         held,
+        late,
         &by_cuts,
         &multiplied,
         bands,
@@ -202,6 +217,12 @@ fn every_field() {
     assert!(tally.of(23) >= 50 && tally.reordered >= 50, "{tally}");
     assert!(tally.multiplied >= 50, "{tally}");
     assert!(tally.of_operator(14) >= 1_000, "{tally}");
+    assert!(tally.arrows >= 300, "{tally}");
+}
+
+/// Whether a certificate's step rests on operator 12 at offset 0.
+fn has_first_arrow((node, certificate): &Certified) -> bool {
+    rests::on_first_arrow(&node.records, &certificate.bytes())
 }
 
 /// Whether a certificate has an equation line of this operator.
@@ -267,7 +288,7 @@ fn every_length() {
 #[test]
 fn forged_arguments() {
     let mut tally = Tally::default();
-    for case in 0..4_000 {
+    for case in 0..6_000 {
         let origin = Origin { seed: 5, case };
         let mut random = Random::of_case(5, case);
         let (mut node, mut certificate, number) = forge::forgery(&mut random);
@@ -284,7 +305,7 @@ fn forged_arguments() {
     println!("forged: {tally}");
     assert_eq!(tally.of(0), 0);
     assert!(
-        [17, 19, 20, 22]
+        [17, 18, 19, 20, 22]
             .iter()
             .all(|number| tally.of(*number) > 500),
         "{tally}"
@@ -382,11 +403,31 @@ fn largest_files() {
     assert!(tally.reordered >= 30, "{tally}");
 }
 
-/// What a line of kind 1 is of: part, whether at offset 0, operator, type and
-/// clause.
-type Clause = (bool, bool, u8, u8, u8);
+/// Where in its window an offset is.
+#[derive(Clone, Copy, Debug, PartialEq, Eq, PartialOrd, Ord)]
+enum Offset {
+    First,
+    Between,
+    Last,
+}
 
-/// The clauses of 01's list, in both parts and at first and later offsets.
+impl Offset {
+    const ALL: [Offset; 3] = [Offset::First, Offset::Between, Offset::Last];
+
+    fn of(q: u8, depth: u8) -> Self {
+        match q {
+            0 => Offset::First,
+            _ if q == depth => Offset::Last,
+            _ => Offset::Between,
+        }
+    }
+}
+
+/// What a line of kind 1 is of: whether of the step, offset, operator, type
+/// and clause.
+type Clause = (bool, Offset, u8, u8, u8);
+
+/// The clauses of the list, in both parts and at all offsets.
 fn every_clause() -> Vec<Clause> {
     let counts = [
         (1, 0, 1),
@@ -407,19 +448,18 @@ fn every_clause() -> Vec<Clause> {
     ];
     let either = [0, 1].map(|kind| [(11, kind, 4), (12, kind, 2), (13, kind, 2)]);
     let all = counts.into_iter().chain(ints).chain(either.concat());
-    let windows = [(false, true), (false, false), (true, true), (true, false)];
-    let listed = windows.into_iter().flat_map(|(step, first)| {
-        let given = all
-            .clone()
-            .filter(move |(op, ..)| !(step && first && matches!(op, 12 | 13)));
-        given.flat_map(move |(op, kind, count)| (0..count).map(move |r| (step, first, op, kind, r)))
+    let windows = [false, true].map(|step| Offset::ALL.map(|q| (step, q)));
+    let listed = windows.as_flattened().iter().flat_map(|&(step, q)| {
+        let none = move |op| step && q == Offset::First && op == 13;
+        let given = all.clone().filter(move |(op, ..)| !none(*op));
+        given.flat_map(move |(op, kind, count)| (0..count).map(move |r| (step, q, op, kind, r)))
     });
     listed.collect()
 }
 
 /// Accepted certificates hold every clause of every operator in both parts,
-/// at first and later offsets, and joins, arithmetic lines and cuts of 1 to 12
-/// literals.
+/// at the first and the last offset and between, and joins, arithmetic lines
+/// and cuts of 1 to 12 literals.
 #[test]
 fn coverage() {
     let mut clauses: BTreeMap<Clause, u64> = BTreeMap::new();
@@ -432,13 +472,15 @@ fn coverage() {
         let Layout::Node(n) = Layout::of_node(&node) else {
             continue;
         };
+        let depth = file[file.len() - 13];
         for (step, line) in lines(&file) {
             if line[0] > 1 {
                 *others.entry((step, line[0], line[1])).or_default() += 1;
                 continue;
             }
             let at = node.len() - 16 - 16 * (n - usize::from(line[2]));
-            let clause = (step, line[4] == 0, node[at], node[at + 1], line[6]);
+            let q = Offset::of(line[4], depth);
+            let clause = (step, q, node[at], node[at + 1], line[6]);
             *clauses.entry(clause).or_default() += 1;
         }
     }

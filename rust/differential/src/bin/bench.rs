@@ -2,10 +2,12 @@
 //! and small certificates, instants of a node of 64 streams, cuts beside
 //! arithmetic lines, equation lines with multiplied constraints beside the same
 //! lines without, instants of the same node in other orders, instants of
-//! lessers and greaters, and tables of ranges. The last four are in the order of
-//! the requests: a library from before 02's S-2 or S-3 refuses what it does not
-//! know, and the run ends there; one from before S-12 is not linked. Nodes of
-//! the other rows have no lessers and greaters, and are those of before.
+//! lessers and greaters, and tables of ranges. A library from before 02's S-4
+//! accepts none of the certificates, and the run ends at the first; one from
+//! before S-12 is not linked. Nodes, inputs and lines are those that were drawn
+//! before S-4, when the base ended at k − 1: each certificate has an equation
+//! and a join more, two property lines (or last lines) less, and not-prop at k
+//! in the base's property lines.
 //!
 //! `cargo run --offline --release --bin bench`; with
 //! `--no-default-features` the reference alone. The checkers take turns in
@@ -96,8 +98,8 @@ fn measure(what: &str, per: usize, run: &dyn Fn(&dyn Checker)) {
 fn verdicts(random: &mut Random) {
     for kind in largest::KINDS {
         let node = largest::node(random, kind.ints, false);
-        let large = largest::certificate(random, &node, 2, kind, MAX_BLOCKS);
-        let small = largest::certificate(random, &node, 2, kind, 80);
+        let large = largest::as_before(random, &node, 2, kind, MAX_BLOCKS);
+        let small = largest::as_before(random, &node, 2, kind, 80);
         verdict(kind.name, &node, &large);
         verdict(kind.name, &node, &small);
         a_line(kind.name, &node, &small);
@@ -209,7 +211,7 @@ fn cuts(random: &mut Random) {
 fn factors(random: &mut Random) {
     let kind = largest::OF_INTS;
     let node = largest::node(random, kind.ints, false);
-    let plain = largest::certificate(random, &node, 2, kind, MAX_BLOCKS);
+    let plain = largest::as_before(random, &node, 2, kind, MAX_BLOCKS);
     verdict(kind.name, &node, &plain);
     for factor in [2, 1_000_000] {
         let name = format!("times {factor}");
