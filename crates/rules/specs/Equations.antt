@@ -1,5 +1,5 @@
 -- Rule 17, "kind 1 not as above", in its words: "Equation: clause r, counted from 0, of stream p at offset q (base: below k; step: up
--- to k). Literals equal the list below in its order". Lines.antt has the test.
+-- to k). Literals equal the list below in its order". In version 2 "the base covers instants 0 to k". Lines.antt has the test.
 use Prim.Native.Nat.{ℕ, _-_, _<_}
 use mathlib.Core.Path.{_≡_}
 use Rattle.node.specs.declared.equation.StreamType.{StreamType}

@@ -90,7 +90,7 @@ baseWindow version k prop base =
       property = basePropertyOk (version .covered k) prop;
     }
 
--- the step: k + 1 instants in a row, any of version 1, any after instant 0 of version 2
+-- the step: k + 1 instants in a row; in version 1 any, in version 2 any after instant 0
 abbrev pub stepWindow : (k prop base step : ℕ) → Window
 stepWindow k prop base step =
     record { from = base; until = base + step; offsets = k + 1; opening = Entry; property = stepPropertyOk k prop }
