@@ -1,3 +1,2 @@
 pub mod Archive
 pub mod Cases
-pub mod SetUp

@@ -23,7 +23,7 @@ use Rattle.rules.specs.Verdict.{shapePasses, lineFault, partsVerdict, linesVerd
 use Rattle.rules.specs.Versions.{version2}
 use Rattle.rules.specs.Factors.{saysMost, isMultiple}
 use Rattle.soundness.specs.Files.{atMost, line, certificateFile}
-use Rattle.archive.specs.SetUp.{carried, setUp, forgedSetUp, setUpCertificate, halved, forgedCertificate}
+use Rattle.set_up.specs.SetUp.{carried, setUp, forgedSetUp, setUpCertificate, halved, forgedCertificate}
 
 pub has-certificate : verdictOf version2 setUp setUpCertificate ≡ accepted (record { depth = 1; base = 23; step = 13 })
 unfolding carried setUpCertificate atMost nodeFile recordBytes trailerBytes nodeVerdict recordsVerdict typesVerdict isAmong isReady lowestReady orderAfter neededNow equationReads rowFor lengthOk fixedOk countsOk distanceOk lowest shapeOk unusedOk operandsOk typesOk propertyOk rowOf recordsOf recordAmong twosComplement line certificateFile certFixed certCounts certDistance verdictOf fileVerdict beforeLines constraintsVerdict partsVerdict linesVerdict every shapePasses lineShape slotOk numbersOk namesAtom lineFault kindFault typeAmong decoded equationIn clauseIs basePropertyOk stepPropertyOk listedIn standsFrom joins joinOk constraintOk termOk usedOk rises termUnused usedIn written sumOf arithmeticOk saysMost isMultiple sameContent agreeAt

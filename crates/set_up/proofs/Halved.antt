@@ -21,8 +21,8 @@ use Rattle.streams.specs.Values.{truth, equals}
 use Rattle.streams.proofs.AcceptedNodes.{one-solution}
 use Rattle.rules.specs.Theorems.{PropertyHolds}
 use Rattle.rules.proofs.Outcomes.{accepted-keeps}
-use Rattle.archive.specs.SetUp.{carried, forgedSetUp, halved, forgedCertificate, HalvedUnsound}
-use Rattle.archive.proofs.Accepted.{halved-accepts}
+use Rattle.set_up.specs.SetUp.{carried, forgedSetUp, halved, forgedCertificate, HalvedUnsound}
+use Rattle.set_up.proofs.Accepted.{halved-accepts}
 
 -- in a solution stream 3 is 5 at instant 1, as stream 2 at instant 0
 fails-at-1 : (inputs : Inputs) (values : Streams) → Solution (nodeOf forgedSetUp) inputs values → values 1 4 ≡ pos 0

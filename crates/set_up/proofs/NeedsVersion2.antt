@@ -31,8 +31,8 @@ use Rattle.rules.proofs.EquationLines.{clausesAt, ClausesTrue}
 use Rattle.rules.proofs.Outcomes.{accepted-keeps, accepted-values}
 use Rattle.rules.proofs.PropertyLines.{holdsAt, step-property-satisfied}
 use Rattle.rules.proofs.Soundness.{archive-covers}
-use Rattle.archive.specs.SetUp.{carried, setUp, NeedsVersion2}
-use Rattle.archive.proofs.Accepted.{has-certificate}
+use Rattle.set_up.specs.SetUp.{carried, setUp, NeedsVersion2}
+use Rattle.set_up.proofs.Accepted.{has-certificate}
 
 -- a window of two offsets in which all clauses of version 1 are true: nothing is said of stream 2 at the first. The property holds
 -- there, and fails at the second.

@@ -1,0 +1,3 @@
+pub mod Accepted
+pub mod Halved
+pub mod NeedsVersion2
