@@ -27,33 +27,30 @@ carried bound =
     ∷ [])
     4
 
--- "at most 5", which always holds, and "at most 0", which fails at instant 1
+-- at most 5, which always holds, and at most 0, which fails at instant 1
 abbrev pub setUp : List ℕ
 setUp = carried 0
 
 abbrev pub forgedSetUp : List ℕ
 forgedSetUp = carried 1
 
--- stream x at an offset, less stream y at another that is not later, is at most a bound
-abbrev less : (y j x i : ℕ) → List (List ℕ)
-less y j x i = term y j (negℤ (pos 1)) ∷ term x i (pos 1) ∷ []
+-- stream y at offset j is under stream x at offset i, and x is at most y; y's variable comes first
+abbrev under : (y j x i : ℕ) → List ℕ
+under y j x i = atMost (term y j (pos 1) ∷ term x i (negℤ (pos 1)) ∷ []) (negℤ (pos 1))
 
--- constraints 0 and on
-abbrev constraints : List (List ℕ)
-constraints =
-    atMost (term 0 0 (pos 1) ∷ term 3 0 (negℤ (pos 1)) ∷ []) (negℤ (pos 1))  -- 0: 0 < 3 at 0
-    ∷ atMost (term 0 1 (pos 1) ∷ term 3 1 (negℤ (pos 1)) ∷ []) (negℤ (pos 1))  -- 1: 0 < 3 at 1
-    ∷ atMost (term 1 0 (pos 1) ∷ term 3 0 (negℤ (pos 1)) ∷ []) (negℤ (pos 1))  -- 2: 1 < 3 at 0
-    ∷ atMost (term 1 1 (pos 1) ∷ term 3 1 (negℤ (pos 1)) ∷ []) (negℤ (pos 1))  -- 3: 1 < 3 at 1
-    ∷ atMost (less 1 0 3 0) (pos 0)  -- 4: 3 ≤ 1 at 0
-    ∷ atMost (less 2 0 3 1) (pos 0)  -- 5: 3 at 1 is at most 2 at 0
-    ∷ atMost (less 0 0 2 0) (pos 0)  -- 6: 2 ≤ 0 at 0
-    ∷ atMost (less 1 0 2 0) (pos 0)  -- 7: 2 ≤ 1 at 0
-    ∷ atMost (term 0 0 (pos 1) ∷ []) (pos 5)  -- 8: 0 at 0 is at most 5
-    ∷ atMost (term 0 0 (negℤ (pos 1)) ∷ []) (negℤ (pos 5))  -- 9: 0 at 0 is at least 5
-    ∷ atMost (term 0 1 (negℤ (pos 1)) ∷ []) (negℤ (pos 5))  -- 10: 0 at 1 is at least 5
-    ∷ atMost (term 1 0 (pos 1) ∷ []) (pos 0)  -- 11: 1 at 0 is at most 0
-    ∷ atMost (term 1 1 (negℤ (pos 1)) ∷ []) (pos 0)  -- 12: 1 at 1 is at least 0
+abbrev most : (y j x i : ℕ) → List ℕ
+most y j x i = atMost (term y j (negℤ (pos 1)) ∷ term x i (pos 1) ∷ []) (pos 0)
+
+-- the constraints of both certificates, by the number of the bound's stream: that it is under 3 at offsets 0 and 1; 3 ≤ 1 at 0; 3 at 1 is at most 2
+-- at 0; 2 ≤ 1 at 0; 1 at 0 is at most 0
+abbrev shared : (bound : ℕ) → List (List ℕ)
+shared bound =
+    under bound 0 3 0
+    ∷ under bound 1 3 1
+    ∷ most 1 0 3 0
+    ∷ most 2 0 3 1
+    ∷ most 1 0 2 0
+    ∷ atMost (term 1 0 (pos 1) ∷ []) (pos 0)
     ∷ []
 
 -- a constraint as a literal, and its negation
@@ -85,7 +82,7 @@ strike last first rest (s ∷ left) =
     ∷ line 3 first last (says (s .constraint)) (denied left ++ rest) []
     ∷ strike (suc first) (first + 2) rest left
 
--- from "the property fails at offset j, or `rest`" to `rest`: clause 1 of the property has the constraint c, and this and those of the
+-- from the property that fails at offset j, or `rest`, to `rest` alone: clause 1 of the property has the constraint c, and this and those of the
 -- steps add up to a contradiction
 abbrev refute : (j c from first : ℕ) → (rest : List ℕ) → List Step → List (List ℕ)
 refute j c from first rest steps =
@@ -95,16 +92,26 @@ refute j c from first rest steps =
     ∷ line 3 (first + 1) (first + 2) (says c) (denied steps ++ rest) []
     ∷ strike (first + 3) (first + 4) rest steps
 
+-- beside them in set-up, 6 and on: 2 ≤ 0 at 0; 0 at 0 is at most and at least 5; 0 at 1 is at least 5
+abbrev setUpConstraints : List (List ℕ)
+setUpConstraints =
+    shared 0
+    ++ most 0 0 2 0
+    ∷ atMost (term 0 0 (pos 1) ∷ []) (pos 5)
+    ∷ atMost (term 0 0 (negℤ (pos 1)) ∷ []) (negℤ (pos 5))
+    ∷ atMost (term 0 1 (negℤ (pos 1)) ∷ []) (negℤ (pos 5))
+    ∷ []
+
 -- the property of set-up holds at instants 0 and 1, and after each window that begins after instant 0
 unfoldable pub setUpCertificate : List ℕ
 setUpCertificate =
-    certificateFile version2 1 constraints
+    certificateFile version2 1 setUpConstraints
     (line 2 0 0 0 (negations 4 0 2) []
-    ∷ refute 0 0 0 1 (negations 4 1 1) (at 3 0 0 4 ∷ at 1 0 0 11 ∷ at 0 0 1 9 ∷ [])
-    ++ refute 1 1 10 11 [] (at 3 1 0 5 ∷ at 2 0 0 6 ∷ at 0 0 0 8 ∷ at 0 1 1 10 ∷ []))
-    (line 2 0 1 0 (isNot 1 4 ∷ []) [] ∷ refute 1 1 23 24 [] (at 3 1 0 5 ∷ at 2 0 0 7 ∷ at 1 0 0 11 ∷ at 0 1 1 10 ∷ []))
+    ∷ refute 0 0 0 1 (negations 4 1 1) (at 3 0 0 2 ∷ at 1 0 0 5 ∷ at 0 0 1 8 ∷ [])
+    ++ refute 1 1 10 11 [] (at 3 1 0 3 ∷ at 2 0 0 6 ∷ at 0 0 0 7 ∷ at 0 1 1 9 ∷ []))
+    (line 2 0 1 0 (isNot 1 4 ∷ []) [] ∷ refute 1 1 23 24 [] (at 3 1 0 3 ∷ at 2 0 0 4 ∷ at 1 0 0 5 ∷ at 0 1 1 9 ∷ []))
 
--- "z at most 5 at depth 1": accepted in version 2, and no certificate of that depth in version 1
+-- set-up has a certificate of depth 1 in version 2, and none in version 1
 pub record NeedsVersion2 : Type 0 where
   pub has : verdictOf version2 setUp setUpCertificate ≡ accepted (record { depth = 1; base = 23; step = 13 })
   pub had-none : (cert : List ℕ) (v : CertificateValues) → archivedVerdict setUp cert ≡ accepted v → v .depth ≡ 1 → ⊥
@@ -113,12 +120,12 @@ pub record NeedsVersion2 : Type 0 where
 abbrev pub halved : Version
 halved = record { byte = 2; covered = λ k. k; after = true }
 
--- the base of instant 0 alone, and the step of version 2
+-- the base of instant 0 alone, and the step of version 2; beside the shared constraints, 6: 1 at 1 is at least 0
 unfoldable pub forgedCertificate : List ℕ
 forgedCertificate =
-    certificateFile halved 1 constraints
-    (line 2 0 0 0 (negations 4 0 1) [] ∷ refute 0 2 0 1 [] (at 3 0 0 4 ∷ []))
-    (line 2 0 1 0 (isNot 1 4 ∷ []) [] ∷ refute 1 3 7 8 [] (at 3 1 0 5 ∷ at 2 0 0 7 ∷ at 1 0 0 11 ∷ at 1 1 1 12 ∷ []))
+    certificateFile halved 1 (shared 1 ++ atMost (term 1 1 (negℤ (pos 1)) ∷ []) (pos 0) ∷ [])
+    (line 2 0 0 0 (negations 4 0 1) [] ∷ refute 0 0 0 1 [] (at 3 0 0 2 ∷ []))
+    (line 2 0 1 0 (isNot 1 4 ∷ []) [] ∷ refute 1 1 7 8 [] (at 3 1 0 3 ∷ at 2 0 0 4 ∷ at 1 0 0 5 ∷ at 1 1 1 6 ∷ []))
 
 -- a version that accepts a certificate of a property that does not hold
 pub record Unsound (version : Version) : Type 0 where
