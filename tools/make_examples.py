@@ -1,6 +1,6 @@
 #!/usr/bin/env python3
 """Writes the folders of examples: node.bin, cert.bin, the verdict line and a page on each, and a page on all; of those for the
-flight list also table.bin and the line of the check of ranges.
+flight list also table.bin and the line of the check of ranges, and of those with a pass also pass.bin and the lines on it.
 
     python3 tools/make_examples.py
 
@@ -11,6 +11,7 @@ import textwrap
 from dataclasses import dataclass
 
 import booking_proofs
+import duty_proofs
 import example_proofs
 import flight_proofs
 import half_minute_proofs
@@ -20,22 +21,25 @@ import set_up_proofs
 from archived_files import archived_file
 from certificate_files import Certificate
 from node_files import ROOT, node, table
+from pass_files import COMMIT, OLD, TRIAL, pass_file
 
 NODES = {**example_proofs.NODES, **booking_proofs.NODES, **parity_proofs.NODES, **half_minute_proofs.NODES, **order_proofs.NODES,
-         **flight_proofs.NODES, **set_up_proofs.NODES, "forged": node(booking_proofs.LATE, 3),
+         **flight_proofs.NODES, **set_up_proofs.NODES, **duty_proofs.NODES, "forged": node(booking_proofs.LATE, 3),
          "archived-two-bands": example_proofs.NODES["two-bands"]}
 TYPES = ("bool", "int")
 # by operator
 EQUATIONS = ("input", "{k}", "not {a}", "{a} and {b}", "{a} or {b}", "{a} same as {b}", "{a} + {b}", "{a} - {b}", "{k} * {a}",
              "{a} at most {b}", "{a} equal to {b}", "if {c} then {a} else {b}", "{a} -> {b}", "{a} -> pre {b}",
              "lesser of {a} and {b}", "greater of {a} and {b}")
+WORDS = {OLD: "old call", TRIAL: "trial", COMMIT: "commit"}
 
 
 @dataclass(frozen=True)
 class Example:
     """Streams are names and what they are, in record order. The texts are those of the folder's page. An archived certificate is
     its bytes. Rows on lines are those of the base's offsets 0 and 1, those of the step and what they say. Ranges are those of the
-    table, where there is one; `ranges_say` is on them."""
+    table, where there is one; `ranges_say` is on them. Events are those of the pass, where there is one: kind, inputs and the line
+    of each; `pass_says` is on them, and `shows` on the beginning and on each of them."""
     name: str
     title: str
     books: str
@@ -50,6 +54,9 @@ class Example:
     ranges: tuple = ()
     ranges_say: str = ""
     listed: str = ""
+    events: tuple = ()
+    pass_says: str = ""
+    shows: tuple = ()
 
     def equations(self):
         """The rows of a table, one a stream, from the records of the node file; a stream is called by its name."""
@@ -71,6 +78,17 @@ class Example:
         heading = ["| Base, offset 0 | Base, offset 1 | Step | What the lines say |", "|---|---|---|---|"]
         return "\n".join([*heading, *rows]) if rows else ""
 
+    def printed(self):
+        """The lines on the pass."""
+        return [f"pass.bin: begun streams {len(self.streams)}", *[line for _, _, line in self.events]]
+
+    def passing(self):
+        """The table of events, where there is a pass."""
+        calls = [f"{WORDS[kind]} {', '.join(map(str, inputs))}".strip() for kind, inputs, _ in self.events]
+        rows = [f"| {call} | `{line}` | {shown} |"
+                for call, line, shown in zip(["beginning", *calls], self.printed(), self.shows, strict=True)]
+        return "\n".join(["| Event | Line | What it shows |", "|---|---|---|", *rows])
+
     def certificate_file(self):
         return self.certificate if isinstance(self.certificate, bytes) else self.certificate.file()
 
@@ -78,7 +96,8 @@ class Example:
         parts = [f"# {self.title}", wrapped(self.books), "\n".join([*self.heading(), *self.equations()]),
                  wrapped(f"Property: {self.prop}"), wrapped(f"Depth: {self.depth}"), wrapped(f"Certificate: {self.argument}"),
                  self.listing(), wrapped(self.aside), wrapped(f"Table: {self.ranges_say}") if self.ranges else "",
-                 f"Listed: `{self.listed}`" if self.ranges else "", f"Verdict: `{self.verdict}`"]
+                 f"Listed: `{self.listed}`" if self.ranges else "", wrapped(f"Pass: {self.pass_says}") if self.events else "",
+                 self.passing() if self.events else "", f"Verdict: `{self.verdict}`"]
         return "\n\n".join(part for part in parts if part) + "\n"
 
 
@@ -386,6 +405,35 @@ EXAMPLES = (
         and `none` 0 at both, every clause holds, `fine` holds at offset 0 and fails at offset 1. It took depth 2, where `carried`
         at offset 2 is `set up` at offset 1."""),
     Example(
+        "on-duty", "An operator on duty",
+        """Two bands of one dish share the 90 minutes of a pass. At each instant each asks for some minutes. The first is granted
+        its own if there are as many left, and then the second if there are as many left after that; a band that is not granted
+        its own gets none. Asking for a negative number gives minutes back. The operator on duty sees what would be granted, and
+        then decides; the streams to look at stand first.""",
+        (("first", "minutes that the first band asks for"), ("second", "minutes that the second asks for"),
+         ("left", "minutes left before"), ("first granted", "the first is granted its own"),
+         ("second granted", "the second is granted its own"), ("rest", "minutes left after"), ("fine", "the property"),
+         ("less", "minutes left if the first is granted its own"), ("between", "minutes left for the second"),
+         ("fewer", "minutes left if the second is granted its own"), ("pass", "the minutes of a pass"), ("none", "a constant")),
+        "the minutes left are never negative.",
+        "1. That `rest` was not negative one instant before is all that is needed now.",
+        """say `rest` is negative. Where `second granted` holds, `rest` is `between - second` and `second` is at most `between`: the
+        sum of these constraints says 0 is at most -1. So it doesn't, and `rest` is `between`. In the same way `first granted`
+        doesn't hold, and `between` is `left`. That is 90 at instant 0 and later the `rest` of one instant before, not negative by
+        the property.""",
+        duty_proofs.on_duty(), "accepted depth 1 base 74 step 40", events=duty_proofs.EVENTS,
+        pass_says="""the operator tries two bookings and commits one. An answered trial has the line of an instant, the values of
+        all streams in record order, but the session stays where it is. `fine`, the seventh of them, is 1 in each: what the
+        certificate shows of every instant holds of one that is only tried, too.""",
+        shows=("the session stands before instant 0",
+               "of 90 minutes the first band would be granted 50; 40 would be left, too few for the second",
+               "of 90 minutes again, for the first trial doesn't count: both would be granted theirs, and 10 would be left",
+               "the minutes of the second band are missing; the trial of 50 and 30 is still held",
+               "that trial is instant 0 now",
+               "no trial is held any more",
+               "a trial and its commit in one, instant 1: 10 minutes are left, too few for the first band's 20, and the second is "
+               "granted 5 of them")),
+    Example(
         "forged", "A forged certificate",
         """A licence office says at each instant whether a licence is valid, and its word takes two instants to arrive at the
         booking desk. Until then the desk takes the licence to be valid.""",
@@ -500,7 +548,8 @@ PAGE = """# Examples
 
 Nodes of a booking scheduler. Each folder has a node file, a certificate file, the one line `verdict` that a checker says of the
 two, and a page that gives the equations and the argument. Those for the flight list also have a table of ranges, `table.bin`, and
-the one line `listed` that the check of ranges says of node and table. `tools/make_examples.py` writes them all.
+the one line `listed` that the check of ranges says of node and table. One has a pass of a session on its node, `pass.bin`, and the
+lines `says` that are printed when it is run. `tools/make_examples.py` writes them all.
 
 The certificates are of version 2: at depth k the base shows the property at instants 0 to k, and the step at the last of k + 1
 instants in a row that begin after instant 0. Where an argument needs the property of an earlier instant, the step takes it from
@@ -517,6 +566,10 @@ From `rust/reference`, a listing of both files and the verdict of the second che
 The line on a table of ranges, after its name:
 
     tools/check-ranges examples/flight-list/node.bin examples/flight-list/table.bin
+
+The lines of a pass:
+
+    tools/run-pass examples/on-duty
 """
 
 
@@ -532,6 +585,9 @@ def main():
         if example.ranges:
             (files / "table.bin").write_bytes(table(example.ranges))
             (files / "listed").write_text(f"{example.listed}\n")
+        if example.events:
+            (files / "pass.bin").write_bytes(pass_file(example.events, len(example.streams)))
+            (files / "says").write_text("".join(f"{line}\n" for line in example.printed()))
     rows = [f"| [{e.name}]({e.name}/README.md) | {e.title} | `{e.verdict}` |" for e in EXAMPLES]
     (folder / "README.md").write_text(PAGE.format(rows="\n".join(rows)))
     print(f"{len(EXAMPLES)} examples")

@@ -3,123 +3,28 @@
 
     python3 tools/make_pass_cases.py
 
-A pass file is a list of calls, each: u16 input count m, u16 slice length r, m signed 64-bit inputs; all little-endian. A cut-off
-last call is ignored. The program makes a count or a length over 65 as 65.
-
-The line of a call comes from `Session` below, a tiny evaluator over Python's unbounded whole numbers that is written from the
-published rules. Of many calls the line is also written down (`says`), and the two must agree. The lines of refused node files are
-written down. The files go to crates/run_passes/data, the names, node and pass in turn, to args and the lines to stdout beside it.
+The line of an event comes from `Session` of pass_files, a tiny evaluator over Python's unbounded whole numbers that is written from
+the published rules. Of many events the line is also written down (`says`), and the two must agree. The lines of refused node files
+are written down. The files go to crates/run_passes/data, the names, node and pass in turn, to args and the lines to stdout beside
+it. Here stand the passes of old calls alone; those with trials, commits and beginnings stand in trial_cases.
 """
 import struct
 
 import flight_proofs
 import order_proofs
+import trial_cases
 from node_files import ALL, BOOL, INPUT, INT, PROPERTY_FIRST, TWO_BANDS, node, rec, reordered, replaced, write_data, write_lines
+from pass_files import FILES, GREATEST, LEAST, LINES, NAMES, OLD, begun, not_begun, shown
 
-LEAST, GREATEST = -(1 << 63), (1 << 63) - 1
 HALF = 1 << 62
 BILLION = 1_000_000_000
 NUMBER = rec(0, INT)
 TRUE = rec(1, BOOL, k=1)
-FILES, NAMES, LINES = {}, [], []
-CALLS = 0
-
-# What a record with operands a, b, c and constant k gives, from the values now and before, None at instant 0.
-ROWS = {
-    1: lambda a, b, c, k, now, before: k,
-    2: lambda a, b, c, k, now, before: 1 - now[a],
-    3: lambda a, b, c, k, now, before: int(now[a] == 1 and now[b] == 1),
-    4: lambda a, b, c, k, now, before: int(now[a] == 1 or now[b] == 1),
-    5: lambda a, b, c, k, now, before: int(now[a] == now[b]),
-    6: lambda a, b, c, k, now, before: now[a] + now[b],
-    7: lambda a, b, c, k, now, before: now[a] - now[b],
-    8: lambda a, b, c, k, now, before: k * now[a],
-    9: lambda a, b, c, k, now, before: int(now[a] <= now[b]),
-    10: lambda a, b, c, k, now, before: int(now[a] == now[b]),
-    11: lambda a, b, c, k, now, before: now[a] if now[c] == 1 else now[b],
-    12: lambda a, b, c, k, now, before: now[a] if before is None else now[b],
-    13: lambda a, b, c, k, now, before: now[a] if before is None else before[b],
-    14: lambda a, b, c, k, now, before: now[a] if now[a] <= now[b] else now[b],
-    15: lambda a, b, c, k, now, before: now[b] if now[a] <= now[b] else now[a],
-}
-
-
-# how many operands each operator needs now, a first
-NEEDED = (0, 0, 1, 2, 2, 2, 2, 2, 1, 2, 2, 3, 2, 1, 2, 2)
-
-
-def order_of(records):
-    """Each time the lowest record that is not placed and whose operands needed now are."""
-    order = []
-    while len(order) < len(records):
-        order.append(next(i for i, (op, _, *operands) in enumerate(records)
-                          if i not in order and all(a in order for a in operands[:NEEDED[op]])))
-    return order
-
-
-class Session:
-    """A session on a node's records, or on none."""
-
-    def __init__(self, records):
-        self.records = records and [struct.unpack("<BBHHHiI", record) for record in records]
-        self.order = records and order_of(self.records)
-        self.before = None
-
-    def call(self, inputs, room):
-        if self.records is None:
-            return "refused 30 file"
-        places = [i for i, record in enumerate(self.records) if record[0] == 0]
-        if len(inputs) != len(places):
-            return "refused 31 file"
-        if room != len(self.records):
-            return "refused 32 file"
-        given = dict(zip(places, inputs))
-        for i in places:
-            if self.records[i][1] == BOOL and given[i] not in (0, 1):
-                return f"refused 33 record {i}"
-        now = {}
-        for i in self.order:
-            op, _, a, b, c, k, _ = self.records[i]
-            now[i] = given[i] if op == 0 else ROWS[op](a, b, c, k, now, self.before)
-            if not LEAST <= now[i] <= GREATEST:
-                return f"refused 34 record {i}"
-        self.before = now
-        return " ".join(["answered", *[str(now[i]) for i in range(len(now))]])
-
-
-class Pass:
-    """A node file and the calls of a pass on it; `begins` is what is said of the node."""
-
-    def __init__(self, name, node_name, data, records, begins):
-        assert FILES.get(f"{node_name}.node", data) == data and f"{name}.pass" not in FILES, name
-        self.name, self.streams, self.session = f"{name}.pass", len(records or []), Session(records)
-        FILES[f"{node_name}.node"] = data
-        FILES[self.name] = b""
-        NAMES.extend([f"{node_name}.node", self.name])
-        LINES.append(f"{self.name}: {begins}")
-
-    def call(self, *inputs, room=None, says=None):
-        """A call with a slice of n values, or of as many as `room`. The program keeps the slice of a refused one."""
-        global CALLS
-        room = self.streams if room is None else room
-        FILES[self.name] += struct.pack(f"<HH{len(inputs)}q", len(inputs), room, *inputs)
-        line = self.session.call(inputs, room)
-        assert says in (None, line), (self.name, inputs, line, says)
-        LINES.append(line if line.startswith("answered") else f"{line} kept")
-        CALLS += 1
-
-    def calls(self, *lists):
-        for inputs in lists:
-            self.call(*inputs)
-
-
-def begun(name, records, prop, note=b"", node_name=None):
-    return Pass(name, node_name or name, node(records, prop, note), records, f"begun streams {len(records)}")
 
 
 def refused(name, data, says):
     """A record that holds no node, whatever the call."""
-    p = Pass(name, name, data, None, says)
+    p = not_begun(name, data, says)
     p.call(room=0, says="refused 30 file")
     p.call(1, 1, room=6, says="refused 30 file")
     p.call(2, room=1, says="refused 30 file")
@@ -161,10 +66,10 @@ def two_bands():
 
     p = bands("cut-off-in-the-inputs")
     p.calls((1, 1), (0, 1))
-    FILES[p.name] += struct.pack("<HHq", 2, 6, 1) + bytes(7)
+    p.cut_off(struct.pack("<HHHq", OLD, 2, 6, 1) + bytes(7))
     p = bands("cut-off-in-the-counts")
     p.call(1, 1)
-    FILES[p.name] += bytes(3)
+    p.cut_off(bytes(5))
     bands("no-calls")
     FILES[bands("missing").name] = None
 
@@ -384,12 +289,6 @@ def whole_nodes():
     p.call(says="answered 0 1 1000000000 -1000000000")
 
 
-def shown(order, line):
-    """The line of an answered call on records that stand in another order."""
-    word, *values = line.split()
-    return " ".join([word, *[values[old] for old in order]])
-
-
 def reordered_nodes():
     """Nodes from above, or alike, whose records stand in another order."""
     p = begun("property-first", PROPERTY_FIRST, 0)
@@ -446,7 +345,7 @@ def reordered_nodes():
 
 def shuffled_nodes():
     # 1, an int, is now the first input, and 0 the second
-    order = [13, 4, 19, 1, 16, 10, 7, 18, 15, 2, 9, 6, 12, 0, 17, 3, 14, 5, 11, 8, 21, 20]
+    order = trial_cases.SHUFFLED
     p = begun("all-operators-shuffled", reordered(ALL, order), order.index(17))
     p.call(5, 1, says=shown(order, "answered 1 5 1 -7 0 0 1 1 -2 -7 -21 0 0 0 -7 1 -7 1 -7 -2 -7 -2"))
     p.call(-4, 0, says=shown(order, "answered 0 -4 1 -7 1 0 1 0 -11 -7 -21 0 0 0 -7 0 -7 1 -2 -6 -7 -6"))
@@ -697,12 +596,13 @@ def no_node():
 
 def main():
     for part in (two_bands, order, counters, arrows, sums, multiples, outside, whole_nodes, reordered_nodes, shuffled_nodes,
-                 first_outside, operators, lessers, held, lessers_reordered, no_node):
+                 first_outside, operators, lessers, held, lessers_reordered, no_node, *trial_cases.PARTS):
         part()
     write_data("run_passes", FILES)
     write_lines("run_passes", "args", NAMES)
     write_lines("run_passes", "stdout", LINES)
-    print(f"{len(NAMES) // 2} pairs, {CALLS} calls")
+    pairs = len(NAMES) // 2
+    print(f"{pairs} pairs, {len(LINES) - pairs} events")
 
 
 main()

@@ -27,14 +27,14 @@ exported-sessions-exact file told =
 
 pub exported-demand-3 : ExportedDemand3
 unfolding toldNode
-exported-demand-3 node cert told before calls =
+exported-demand-3 node cert told before events =
     let values = accepted-with (verdictOf version2 node cert) (zero .certificate node cert told) in
-    let demanded = demand-3 node cert (values .0) (values .1) before calls in
+    let demanded = demand-3 node cert (values .0) (values .1) before events in
     (ap (λ a. toldNode a .number) (demanded .begins), demanded)
 
 pub exported-sessions-inside : ExportedSessionsInside
 unfolding toldNode
-exported-sessions-inside file table told before calls inside =
+exported-sessions-inside file table told before events =
     let listed = accepted-with (listingOf file table) (zero .ranges file table told) in
     let node = keeps-accepted file (listed-keeps file table (listed .1) .node) in
-    (ap (λ a. toldNode a .number) node, sessions-inside file table (listed .1) before calls inside)
+    (ap (λ a. toldNode a .number) node, sessions-inside file table (listed .1) before events)

@@ -1,4 +1,5 @@
 pub mod Demands
+pub mod InstantPassed
 pub mod PassedOn
 pub mod Telling
 pub mod Zero

@@ -1,7 +1,7 @@
 -- Number 0 says accepted: every refusal's number is above 0.
 -- Assumes nothing.
 use mathlib.Core.Path.{_≡_, refl}
-use mathlib.Core.Bool.{Bool, true, false}
+use mathlib.Core.Bool.{Bool, true, false, not}
 use mathlib.Core.List.{List}
 use Prim.Native.Nat.{ℕ, _<_}
 use native.Mathlib.Omega.{arith}
@@ -26,8 +26,8 @@ use Rattle.node.specs.Rules.{lengthOk}
 use Rattle.node.specs.Verdict.{passesOf, neverPlaced, typesVerdict, recordsVerdict, verdictOf as nodeVerdict}
 use Rattle.streams.specs.Instant.{inputFits, valueInside, firstAlong}
 use Rattle.session.specs.declared.Session.{Session}
-use Rattle.session.specs.Instants.{workedOut, answerOf}
-use Rattle.session.specs.Records.{held, holdsNode}
+use Rattle.session.specs.Instants.{workedOut, answerOf, commitAnswer}
+use Rattle.session.specs.Records.{heldFile, untried, holdsNode}
 use Rattle.ranges.specs.Listing.{lengthOk as tableLengthOk, endsOk, resultsOk, tableVerdict, listingOf}
 use Rattle.constraints.specs.Layout.{trailerOf, lineOf}
 use Rattle.constraints.specs.Rules.{fixedOk, countsOk, distanceOk}
@@ -120,13 +120,20 @@ verdict-numbered node cert =
 instant-numbered : (s : Session) (inputs : List ℤ) (room : ℕ) → Numbered (answerOf s inputs room)
 unfolding answerOf
 instant-numbered s inputs room =
-    let n = streamsOf (held s) in
+    let n = streamsOf (heldFile s) in
     tested (holdsNode s) 30 File _ (omega arith)
-    (tested (eqb (length inputs) (inputCount (held s))) 31 File _ (omega arith)
+    (tested (eqb (length inputs) (inputCount (heldFile s))) 31 File _ (omega arith)
     (tested (eqb room n) 32 File _ (omega arith)
-    (tested-all (lowest (inputFits (held s) inputs) n) 33 AtRecord _ (omega arith)
-    (tested-all (firstAlong (orderOf (held s)) (valueInside (workedOut s inputs))) 34 AtRecord _ (omega arith)
+    (tested-all (lowest (inputFits (heldFile s) inputs) n) 33 AtRecord _ (omega arith)
+    (tested-all (firstAlong (orderOf (heldFile s)) (valueInside (workedOut s inputs))) 34 AtRecord _ (omega arith)
     (none _)))))
+
+commit-numbered : (s : Session) → Numbered (commitAnswer s)
+unfolding commitAnswer
+commit-numbered s =
+    tested (holdsNode s) 30 File _ (omega arith)
+    (tested (not (untried s)) 35 File _ (omega arith)
+    (none _))
 
 listing-numbered : (file : List ℕ) (table : List ℤ) → Numbered (listingOf file table)
 unfolding listingOf tableVerdict
@@ -149,5 +156,6 @@ zero =
       node = λ file. zero-accepts (λ (v : NodeValues). toldAccepted (v .streams) (v .property) 0) (nodeVerdict file) (node-numbered file);
       certificate = λ node cert. zero-accepts (λ (v : CertificateValues). toldAccepted (v .depth) (v .base) (v .step)) (verdictOf version2 node cert) (verdict-numbered node cert);
       instant = λ s inputs room. zero-accepts (λ (_ : Unit {0}). toldAccepted 0 0 0) (answerOf s inputs room) (instant-numbered s inputs room);
+      commit = λ s. zero-accepts (λ (_ : Unit {0}). toldAccepted 0 0 0) (commitAnswer s) (commit-numbered s);
       ranges = λ file table. zero-accepts (λ (_ : Unit {0}). toldAccepted 0 0 0) (listingOf file table) (listing-numbered file table);
     }

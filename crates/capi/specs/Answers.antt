@@ -43,6 +43,6 @@ toldNode answer = toldOf (λ v. toldAccepted (v .streams) (v .property) 0) answe
 unfoldable pub toldCertificate : Answer CertificateValues → Told
 toldCertificate answer = toldOf (λ v. toldAccepted (v .depth) (v .base) (v .step)) answer
 
--- an instant's call's, and that to a table of ranges: nothing
+-- that to a trial, a commit, the old call and a table of ranges: nothing
 unfoldable pub toldPlain : Answer (Unit {0}) → Told
 toldPlain answer = toldOf (λ _. toldAccepted 0 0 0) answer

@@ -1,21 +1,21 @@
 -- What is proved of the exported calls, stated without the proofs.
-use Prim.Native.Nat.{ℕ, _<_}
+use Prim.Native.Nat.{ℕ}
 use mathlib.Core.Path.{_≡_}
 use mathlib.Core.Bool.{true}
 use mathlib.Core.List.{List}
 use lib.IntN.{ℤ}
-use lib.ListN.{length}
 use Rattle.answers.specs.Answer.{Answer, isAccepted}
+use Rattle.node.specs.Reads.{All}
 use Rattle.node.specs.Verdict.{verdictOf as nodeVerdict}
 use Rattle.session.specs.declared.Session.{Session}
-use Rattle.session.specs.Instants.{answerOf}
-use Rattle.session.specs.Lists.{Call, afterAll, answered, call}
+use Rattle.session.specs.Events.{Event, begunRun, afterEvents, lastRun, runs}
+use Rattle.session.specs.Instants.{answerOf, commitAnswer}
 use Rattle.session.specs.Records.{begunOf}
-use Rattle.session.specs.Theorems.{Shows, Exact}
+use Rattle.session.specs.Theorems.{RunShows, ExactNext}
 use Rattle.rules.specs.Verdict.{verdictOf}
 use Rattle.rules.specs.Versions.{version2}
 use Rattle.ranges.specs.Listing.{listingOf}
-use Rattle.ranges.specs.Theorems.{InputsInside, StaysInside}
+use Rattle.ranges.specs.Theorems.{StaysInside}
 use Rattle.soundness.specs.Demands.{Demanded}
 use Rattle.capi.specs.declared.told.Told.{Told}
 use Rattle.capi.specs.Answers.{toldNode, toldCertificate, toldPlain}
@@ -33,30 +33,32 @@ pub record NumbersTell : Type 0 where
 pub record ZeroAccepts : Type 0 where
   pub node : (file : List ℕ) → toldNode (nodeVerdict file) .number ≡ 0 → isAccepted (nodeVerdict file) ≡ true
   pub certificate : (node cert : List ℕ) → toldCertificate (verdictOf version2 node cert) .number ≡ 0 → isAccepted (verdictOf version2 node cert) ≡ true
+  -- of a trial and of the old call
   pub instant : (s : Session) (inputs : List ℤ) (room : ℕ) → toldPlain (answerOf s inputs room) .number ≡ 0 → isAccepted (answerOf s inputs room) ≡ true
+  pub commit : (s : Session) → toldPlain (commitAnswer s) .number ≡ 0 → isAccepted (commitAnswer s) ≡ true
   pub ranges : (file : List ℕ) (table : List ℤ) → toldPlain (listingOf file table) .number ≡ 0 → isAccepted (listingOf file table) ≡ true
 
--- demand 2 of the exported calls, whatever bytes the record held: what is told of a call is told of the answer that `Exact` gives
+-- demand 2 of the exported calls, whatever bytes the record held: what is told of a call is told of the answer that `ExactNext` gives
 abbrev pub ExportedSessionsExact : Type 0
 ExportedSessionsExact =
     (file : List ℕ) → toldNode (nodeVerdict file) .number ≡ 0
-    → (before : Session) (calls : List Call)
+    → (before : Session) (events : List Event)
     → let s = begunOf file before in
-    Shows file (answered s calls) × ((c : Call) → Exact file (afterAll s calls) (answered s calls) c)
+    let r = begunRun file in
+    All RunShows (runs s r events) × ExactNext (afterEvents s events) (lastRun s r events)
 
 -- demand 3 of the exported calls: the beginning's number is 0 too
 abbrev pub ExportedDemand3 : Type 0
 ExportedDemand3 =
     (node cert : List ℕ) → toldCertificate (verdictOf version2 node cert) .number ≡ 0
-    → (before : Session) (calls : List Call)
-    → (toldNode (nodeVerdict node) .number ≡ 0) × Demanded node before calls
+    → (before : Session) (events : List Event)
+    → (toldNode (nodeVerdict node) .number ≡ 0) × Demanded node before events
 
 -- listed nodes by the exported calls: the beginning's number is 0 too
 abbrev pub ExportedSessionsInside : Type 0
 ExportedSessionsInside =
     (file : List ℕ) (table : List ℤ) → toldPlain (listingOf file table) .number ≡ 0
-    → (before : Session) (calls : List Call)
+    → (before : Session) (events : List Event)
     → let s = begunOf file before in
-    let done = answered s calls in
-    ((t : ℕ) → t < length done → InputsInside file table (call done t .inputs))
-    → (toldNode (nodeVerdict file) .number ≡ 0) × StaysInside file table (afterAll s calls) done
+    let r = lastRun s (begunRun file) events in
+    (toldNode (nodeVerdict file) .number ≡ 0) × (r .node ≡ file → StaysInside file table (afterEvents s events) r)

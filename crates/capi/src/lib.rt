@@ -9,5 +9,7 @@ pub use files::conuhawe_node_note;
 pub use files::conuhawe_ranges;
 pub use files::conuhawe_read;
 pub use lent::conuhawe_begin;
+pub use lent::conuhawe_commit;
 pub use lent::conuhawe_instant;
+pub use lent::conuhawe_trial;
 pub use told::Told;

@@ -37,17 +37,19 @@ use Rattle.streams.specs.Nodes.{nodeOf}
 use Rattle.streams.specs.Solutions.{Streams}
 use Rattle.streams.specs.Typing.{Fits, TypedInstant}
 use Rattle.streams.specs.Values.{Values, valuesIn}
+use Rattle.streams.proofs.Reading.{all-map}
 use Rattle.session.specs.declared.Session.{Session}
-use Rattle.session.specs.Lists.{Call, Answered, answerTo, afterAll, answered, call}
+use Rattle.session.specs.Events.{begunRun, afterEvents, lastRun}
+use Rattle.session.specs.Lists.{Call, Answered, answerTo, call}
 use Rattle.session.specs.Records.{begunOf}
 use Rattle.session.specs.Theorems.{Shows, Exact, Solves, Judged, inputTyped, answerGiven}
 use Rattle.session.proofs.CallAnswers.{typed-count, typed-inputs, typed}
-use Rattle.session.proofs.Sessions.{sessions-exact}
+use Rattle.session.proofs.Sessions.{sessions-exact, last-shows}
 use Rattle.ranges.specs.declared.table.Range.{Range}
 use Rattle.ranges.specs.Outcome.{ListedRules}
 use Rattle.ranges.specs.Results.{single}
 use Rattle.ranges.specs.Table.{range, rangeIn, rangeOk, In, SmallEnds}
-use Rattle.ranges.specs.Theorems.{InputsInside, ValuesInside, SolutionsInside, answerInside, SessionsInside}
+use Rattle.ranges.specs.Theorems.{InputsInside, ValuesInside, SolutionsInside, answerInside, AllInside, ListStays, SessionsInside}
 use Rattle.ranges.proofs.Extents.{in-single}
 use Rattle.ranges.proofs.Outcomes.{listed-keeps}
 use Rattle.ranges.proofs.Staying.{solution-in}
@@ -88,7 +90,7 @@ module _ (file : List ℕ) (table : List ℤ) (listed : ListedRules file table) 
   answer-inside : (c : Call) (values : Values) → ((i : ℕ) → i < streamsOf file → inside (values i) ≡ true) → answerGiven file c values ≡ answerInside file c
   answer-inside c values h = rw (none-along file is-node (λ i. inside (values i)) h)
 
-  module _ (done : List Answered) (inputs-inside : (t : ℕ) → t < length done → InputsInside file table (call done t .inputs)) where
+  module _ (done : List Answered) (inputs-inside : AllInside file table done) where
     -- values of a solution on the answered inputs and perhaps one more
     stays : (v : Streams) (of-v : Solves file done v) (t : ℕ) → t < length done → ValuesInside file table (v t)
     stays v of-v t l =
@@ -151,14 +153,17 @@ solutions-inside file table e =
     solution-in file table (is-node file table listed) (listed .results)
 
 pub sessions-inside : SessionsInside
-sessions-inside file table e before calls inputs-inside =
+sessions-inside file table e before events on-file =
     let listed = listed-keeps file table e in
     let s = begunOf file before in
-    let done = answered s calls in
-    let exact = sessions-exact file _ (is-node file table listed) before calls in
-    let answers : (c : Call) → InputsInside file table (c .inputs) → answerTo (afterAll s calls) c ≡ answerInside file c = λ c own. call-inside file table listed done inputs-inside c own (afterAll s calls) (exact .1 c) in
+    let r = lastRun s (begunRun file) events in
+    let exact = sessions-exact file _ (is-node file table listed) before events in
+    let shown = last-shows file (is-node file table listed) before events in
+    let stays : (done : List Answered) → Shows (r .node) done → ListStays file table done = λ done shows inputs-inside. shown-inside file table listed done inputs-inside (subst (λ (n : List ℕ). Shows n done) on-file shows) in
+    let answers : AllInside file table (r .done) → (c : Call) → InputsInside file table (c .inputs) → answerTo (afterEvents s events) c ≡ answerInside file c = λ inputs-inside c own. call-inside file table listed (r .done) inputs-inside c own (afterEvents s events) (subst (λ (n : List ℕ). Exact n (afterEvents s events) (r .done) c) on-file (exact .1 .calls c)) in
     record {
-      values = shown-inside file table listed done inputs-inside (exact .0);
+      commits = stays (r .done) (shown .commits);
+      trials = all-map {P = Shows (r .node)} {Q = ListStays file table} stays (r .tried) (shown .trials);
       answers = answers;
-      never-34 = λ c own place f. never-34 file c place (sym (answers c own) ∙ f);
+      never-34 = λ inputs-inside c own place f. never-34 file c place (sym (answers inputs-inside c own) ∙ f);
     }

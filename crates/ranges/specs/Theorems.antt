@@ -17,12 +17,14 @@ use Rattle.node.specs.declared.equation.Equation.the-variants.{Input}
 use Rattle.node.specs.Equations.{typeAt, equationAt}
 use Rattle.node.specs.Inputs.{inputCount}
 use Rattle.node.specs.Layout.{streamsOf}
+use Rattle.node.specs.Reads.{All}
 use Rattle.streams.specs.Nodes.{nodeOf}
 use Rattle.streams.specs.Solutions.{Streams, Solution}
 use Rattle.streams.specs.Typing.{Inputs, given}
 use Rattle.streams.specs.Values.{Values, valuesIn}
 use Rattle.session.specs.declared.Session.{Session}
-use Rattle.session.specs.Lists.{Call, Answered, answerTo, afterAll, answered, call}
+use Rattle.session.specs.Events.{Event, Run, begunRun, afterEvents, lastRun}
+use Rattle.session.specs.Lists.{Call, Answered, answerTo, call}
 use Rattle.session.specs.Records.{begunOf}
 use Rattle.session.specs.Theorems.{inputTyped}
 use Rattle.ranges.specs.declared.table.Range.{Range}
@@ -68,18 +70,28 @@ answerInside file c =
     (checkAll (lowest (inputTyped file (c .inputs)) (streamsOf file)) 33 AtRecord
     (accepted tt)))
 
--- a session after calls, and any next call: each call of a list is the next one after those before it
-pub record StaysInside (file : List ℕ) (table : List ℤ) (s : Session) (done : List Answered) : Type 0 where
-  pub values : (t : ℕ) → t < length done → ValuesInside file table (valuesIn (call done t .values))
-  pub answers : (c : Call) → InputsInside file table (c .inputs) → answerTo s c ≡ answerInside file c
-  pub never-34 : (c : Call) → InputsInside file table (c .inputs) → (place : Place) → ¬ (answerTo s c ≡ refused 34 place)
+-- where the int inputs of a list's answered calls were inside, so were their values
+abbrev pub AllInside : (file : List ℕ) → (table : List ℤ) → List Answered → Type 0
+AllInside file table done = (t : ℕ) → t < length done → InputsInside file table (call done t .inputs)
 
--- whatever the file, the table, the record before the beginning and the calls, where the answered calls' int inputs were inside
+abbrev pub ListStays : (file : List ℕ) → (table : List ℤ) → List Answered → Type 0
+ListStays file table done =
+    AllInside file table done
+    → (t : ℕ) → t < length done → ValuesInside file table (valuesIn (call done t .values))
+
+-- a session in a run, and any next call, trial or old: each call of a list is the next one after those before it. Its int inputs are
+-- those of the commits and its own
+pub record StaysInside (file : List ℕ) (table : List ℤ) (s : Session) (r : Run) : Type 0 where
+  pub commits : ListStays file table (r .done)
+  pub trials : All (ListStays file table) (r .tried)
+  pub answers : AllInside file table (r .done) → (c : Call) → InputsInside file table (c .inputs) → answerTo s c ≡ answerInside file c
+  pub never-34 : AllInside file table (r .done) → (c : Call) → InputsInside file table (c .inputs) → (place : Place) → ¬ (answerTo s c ≡ refused 34 place)
+
+-- whatever the file, the table, the record before the beginning and the events, where the last answered beginning is on the file
 abbrev pub SessionsInside : Type 0
 SessionsInside =
     (file : List ℕ) (table : List ℤ) → listingOf file table ≡ accepted tt
-    → (before : Session) (calls : List Call)
+    → (before : Session) (events : List Event)
     → let s = begunOf file before in
-    let done = answered s calls in
-    ((t : ℕ) → t < length done → InputsInside file table (call done t .inputs))
-    → StaysInside file table (afterAll s calls) done
+    let r = lastRun s (begunRun file) events in
+    r .node ≡ file → StaysInside file table (afterEvents s events) r

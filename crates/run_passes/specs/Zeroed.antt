@@ -8,7 +8,9 @@ zeroed =
     record {
       length = 0;
       last = replicate 64 (pos 0);
+      trial = replicate 64 (pos 0);
       file = replicate 1040 0;
       started = 0;
-      spare = replicate 7 0;
+      held = 0;
+      spare = replicate 6 0;
     }

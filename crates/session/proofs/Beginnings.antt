@@ -22,7 +22,7 @@ module _ (file : List ℕ) where
       let n-is = ap (λ (v : NodeValues). v .streams) (accepted-values file e) in
       omega (arith, accepted-sizes file e .few)
 
-  pub begun-is : {node : NodeValues} → verdictOf file ≡ accepted node → (copy : List ℕ) → copy ≡ filled 1040 0 (drop (length file - sizeOf (node .streams)) file) → record { length = sizeOf (node .streams); last = replicate 64 (pos 0); file = copy; started = 0; spare = replicate 7 0 } ≡ begun file
+  pub begun-is : {node : NodeValues} → verdictOf file ≡ accepted node → (copy : List ℕ) → copy ≡ filled 1040 0 (drop (length file - sizeOf (node .streams)) file) → record { length = sizeOf (node .streams); last = replicate 64 (pos 0); trial = replicate 64 (pos 0); file = copy; started = 0; held = 0; spare = replicate 6 0 } ≡ begun file
   begun-is e copy f = rw (f, ← note-is file e, rest-size file e)
 
   module _ (before : Session) where

@@ -1,7 +1,7 @@
 -- The answer to a call where a session stands: 30 passes, 31 to 33 ask of the record what they ask of the file, and 34 searches the
 -- solution's values.
 -- Assumes nothing.
-use mathlib.Core.Path.{_≡_, refl, _∙_, ap, ap₂}
+use mathlib.Core.Path.{_≡_, refl, sym, _∙_, ap, ap₂}
 use mathlib.Core.Bool.{Bool, true, false, not, _||_}
 use mathlib.Core.List.{List}
 use Prim.Native.Nat.{ℕ, _<_}
@@ -23,6 +23,7 @@ use Rattle.node.specs.Inputs.{isInput, inputCount}
 use Rattle.node.specs.Layout.{streamsOf}
 use Rattle.node.specs.Reads.{orderOf}
 use Rattle.node.specs.Verdict.{verdictOf}
+use Rattle.node.proofs.Outcomes.{is-accepted}
 use Rattle.node.proofs.WellFormedness.{accepted-well-formed}
 use Rattle.streams.specs.Instant.{inputFits, valueInside, atPlace, firstOf, firstAlong}
 use Rattle.streams.specs.Nodes.{Node, nodeOf, nodeOrder}
@@ -34,11 +35,11 @@ use Rattle.streams.proofs.Numbers.{fits-test}
 use Rattle.session.specs.declared.Session.{Session}
 use Rattle.session.specs.Instants.{workedOut, inOrder, answerOf}
 use Rattle.session.specs.Lists.{Call, Answered, answerTo}
-use Rattle.session.specs.Records.{held}
+use Rattle.session.specs.Records.{heldFile, holdsNode}
 use Rattle.session.specs.Theorems.{Judged, inputTyped, answerGiven}
-use Rattle.session.proofs.Answering.{not-answered}
+use Rattle.session.proofs.Answering.{not-answered, held-accepted, answered-holds}
 use Rattle.session.proofs.Nodes.{input-fits-same}
-use Rattle.session.proofs.Standing.{Standing, held-node, holds-node, worked-out-is}
+use Rattle.session.proofs.Standing.{Standing, held-node, worked-out-is}
 
 -- 34 is met where 31 and 33 pass
 same-order : (count size : Bool) (input value other : Found) → (count ≡ true → input ≡ Nothing → value ≡ other) → inOrder true count size input value ≡ inOrder true count size input other
@@ -98,8 +99,8 @@ module _ (file : List ℕ) {node : NodeValues} (e : verdictOf file ≡ accepted 
     answer-is : answerTo s c ≡ answerGiven file c (valuesIn (workedOut s (c .inputs)))
     unfolding answerOf inputFits
     answer-is =
-        ap₂ (λ (b : Bool) (n : Node). inOrder b (eqb (length (c .inputs)) (n .inputs)) (eqb (length (c .slice)) (n .streams)) (lowest (inputFits (held s) (c .inputs)) (n .streams)) (firstAlong (nodeOrder n) (valueInside (workedOut s (c .inputs)))))
-        (holds-node file e done s stands)
+        ap₂ (λ (b : Bool) (n : Node). inOrder b (eqb (length (c .inputs)) (n .inputs)) (eqb (length (c .slice)) (n .streams)) (lowest (inputFits (heldFile s) (c .inputs)) (n .streams)) (firstAlong (nodeOrder n) (valueInside (workedOut s (c .inputs)))))
+        (stands .node)
         (held-node file e done s stands)
         ∙ ap (λ (fit : ℕ → Bool). inOrder true (eqb (length (c .inputs)) (inputCount file)) (eqb (length (c .slice)) (streamsOf file)) (lowest fit (streamsOf file)) (firstAlong (orderOf file) (valueInside (workedOut s (c .inputs)))))
         (ap (λ (f : List ℕ). inputFits f (c .inputs)) (stands .holds) ∙ input-fits-same file e (c .inputs))
@@ -113,3 +114,14 @@ module _ (file : List ℕ) {node : NodeValues} (e : verdictOf file ≡ accepted 
 
     pub answered-typed : answerTo s c ≡ accepted tt → TypedInstant (nodeOf file) (c .inputs)
     answered-typed = rw answer-is (given-typed (valuesIn (workedOut s (c .inputs))))
+
+-- on every record an answered call's inputs are typed
+module _ (s : Session) (c : Call) where
+  held-answer-is : holdsNode s ≡ true → answerTo s c ≡ answerGiven (heldFile s) c (valuesIn (workedOut s (c .inputs)))
+  unfolding answerOf inputFits
+  held-answer-is e = rw e refl
+
+  pub held-answered-typed : answerTo s c ≡ accepted tt → TypedInstant (nodeOf (heldFile s)) (c .inputs)
+  held-answered-typed e =
+      let holds = answered-holds s (c .inputs) (length (c .slice)) e in
+      given-typed (heldFile s) (is-accepted (heldFile s) (held-accepted s holds)) c (valuesIn (workedOut s (c .inputs))) (sym (held-answer-is holds) ∙ e)

@@ -1,3 +1,4 @@
+pub mod Events
 pub mod Instants
 pub mod Lists
 pub mod Records

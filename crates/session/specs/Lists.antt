@@ -1,4 +1,4 @@
--- Lists of an instant's calls: "The list is any number of an instant's calls, none too, each with any inputs and any slice."
+-- Lists of the old call: "The list is any number of an instant's calls, none too, each with any inputs and any slice."
 use Prim.Native.Nat.{ℕ}
 use mathlib.Core.List.{List, [], _∷_, _++_}
 use lib.IntN.{ℤ}
@@ -32,12 +32,14 @@ pub record Answered : Type 0 where
   pub inputs : List ℤ
   pub values : List ℤ
 
+-- a call, where it is answered
+abbrev pub told : Session → Call → Answered
+told s c = record { inputs = c .inputs; values = sliceAfter s c }
+
 -- the answered calls of a list, counted from 0
 unfoldable pub answered : Session → List Call → List Answered
 answered s [] = []
-answered s (c ∷ cs) =
-    ifAccepted (answerTo s c) (record { inputs = c .inputs; values = sliceAfter s c } ∷ []) []
-    ++ answered (after s c) cs
+answered s (c ∷ cs) = ifAccepted (answerTo s c) (told s c ∷ []) [] ++ answered (after s c) cs
 
 -- answered call t
 abbrev pub call : List Answered → (t : ℕ) → Answered

@@ -1,9 +1,9 @@
--- What is proved of every list of an instant's calls from an answered beginning, stated without the proofs (demand 2). No
--- certificate is needed.
+-- What is proved of every list of calls from an answered beginning, stated without the proofs (demand 2): "where demand 2 says answered
+-- so far, it now means committed". No certificate is needed.
 use Prim.Native.Nat.{ℕ, suc, _<_}
 use mathlib.Core.Path.{_≡_}
-use mathlib.Core.Bool.{Bool, not, _||_}
-use mathlib.Core.List.{List}
+use mathlib.Core.Bool.{Bool, true, false, not, _||_}
+use mathlib.Core.List.{List, [], _∷_, _++_, map}
 use lib.Dec.{eqb}
 use lib.IntN.{ℤ}
 use lib.ListN.{length}
@@ -15,7 +15,7 @@ use Rattle.answers.specs.Checks.{check, checkAll, lowest}
 use Rattle.node.specs.Equations.{typeAt}
 use Rattle.node.specs.Inputs.{isInput, inputCount}
 use Rattle.node.specs.Layout.{streamsOf}
-use Rattle.node.specs.Reads.{orderOf}
+use Rattle.node.specs.Reads.{All, orderOf}
 use Rattle.node.specs.Verdict.{verdictOf}
 use Rattle.streams.specs.Instant.{firstAlong}
 use Rattle.streams.specs.Nodes.{nodeOf}
@@ -23,6 +23,8 @@ use Rattle.streams.specs.Solutions.{Streams, Solution}
 use Rattle.streams.specs.Typing.{Inputs, TypedInstant, TypedInputs, fitsTest, given}
 use Rattle.streams.specs.Values.{Values, valuesIn}
 use Rattle.session.specs.declared.Session.{Session}
+use Rattle.session.specs.Events.{Event, trial, commit, eventAnswer, afterEvent, lentTo, lentAfter, Trial, none, some, Run, begunRun, afterEvents, lastRun, runs}
+use Rattle.session.specs.Instants.{commitAnswer}
 use Rattle.session.specs.Lists.{Call, Answered, answerTo, after, sliceAfter, afterAll, answered, call}
 use Rattle.session.specs.Records.{begunOf}
 
@@ -76,10 +78,47 @@ pub record Exact (file : List ℕ) (s : Session) (done : List Answered) (c : Cal
   -- "Every refusal leaves session and slices as before the call."
   pub keeps : (number : ℕ) (place : Place) → answerTo s c ≡ refused number place → (after s c ≡ s) × (sliceAfter s c ≡ c .slice)
 
--- whatever bytes the file holds, whatever the record held before the beginning, whatever the calls
+-- what a run has shown: "Values along the committed instants are those of the equations on the committed inputs. A trial's values are
+-- those on the committed inputs and its own"
+pub record RunShows (r : Run) : Type 0 where
+  pub commits : Shows (r .node) (r .done)
+  pub trials : All (Shows (r .node)) (r .tried)
+
+abbrev pub isHeld : Trial → Bool
+isHeld none = false
+isHeld (some a) = true
+
+-- any next event on a session in a run. A beginning's answer is its file's verdict, and 30 never refuses
+pub record ExactNext (s : Session) (r : Run) : Type 0 where
+  -- a trial and the old call
+  pub calls : (c : Call) → Exact (r .node) s (r .done) c
+  -- 35 alone
+  pub commits : commitAnswer s ≡ check (isHeld (r .held)) 35 File (accepted tt)
+  -- "Every refusal leaves session and slices as before the call."
+  pub keeps : (e : Event) (number : ℕ) (place : Place) → eventAnswer s e ≡ refused number place → (afterEvent s e ≡ s) × (lentAfter s e ≡ lentTo e)
+
+-- whatever bytes the file holds, whatever the record held before the beginning, whatever the events
 abbrev pub SessionsExact : Type 0
 SessionsExact =
+    (file : List ℕ) (node : NodeValues) → verdictOf file ≡ accepted node
+    → (before : Session) (events : List Event)
+    → let s = begunOf file before in
+    let r = begunRun file in
+    All RunShows (runs s r events) × ExactNext (afterEvents s events) (lastRun s r events)
+
+-- the same of the old call alone
+abbrev pub CallsExact : Type 0
+CallsExact =
     (file : List ℕ) (node : NodeValues) → verdictOf file ≡ accepted node
     → (before : Session) (calls : List Call)
     → let s = begunOf file before in
     Shows file (answered s calls) × ((c : Call) → Exact file (afterAll s calls) (answered s calls) c)
+
+-- "The old call means a trial and its commit": on every record, where call c is answered, trials and then the trial of c and a commit
+-- leave the record, and that trial the slice, which the old call leaves
+pub record OneCall (s : Session) (trials : List Call) (c : Call) : Type 0 where
+  pub record-same : afterEvents s (map trial trials ++ (trial c ∷ commit ∷ [])) ≡ after s c
+  pub slice-same : sliceAfter (afterEvents s (map trial trials)) c ≡ sliceAfter s c
+
+abbrev pub TrialsThenCommit : Type 0
+TrialsThenCommit = (s : Session) (trials : List Call) (c : Call) → answerTo s c ≡ accepted tt → OneCall s trials c

@@ -10,9 +10,9 @@ use Rattle.session.specs.declared.holding.HeldNode.the-variants.{Streams
 use Rattle.session.specs.Records.{isNode, holds}
 
 -- the node that a file holds
-unfoldable pub nodeIn : (file : List ℕ) → (first : Bool) → (last : List ℤ) → HeldNode
-nodeIn file first last = cond (isNode file first last) (Streams (streamsOf file)) NoNode
+unfoldable pub nodeIn : (file : List ℕ) → (first : Bool) → (last : List ℤ) → (free : Bool) → (trial : List ℤ) → HeldNode
+nodeIn file first last free trial = cond (isNode file first last free trial) (Streams (streamsOf file)) NoNode
 
 -- the node that a record with these parts holds
-unfoldable pub nodeHeld : (file : List ℕ) → (size : ℕ) → (first : Bool) → (last : List ℤ) → HeldNode
-nodeHeld file size first last = cond (holds file size first last) (Streams (streamsOf (take size file))) NoNode
+unfoldable pub nodeHeld : (file : List ℕ) → (size : ℕ) → (first : Bool) → (last : List ℤ) → (free : Bool) → (trial : List ℤ) → HeldNode
+nodeHeld file size first last free trial = cond (holds file size first last free trial) (Streams (streamsOf (take size file))) NoNode

@@ -31,7 +31,7 @@ fn copy_from(file: &[u8], start: usize) -> [u8; 1040]
     copy
 }
 
-// A record set to an accepted file's node, before instant 0: its records and trailer are the file's last bytes.
+// A record set to an accepted file's node, before instant 0 and with no trial: its records and trailer are the file's last bytes.
 fn session_on(file: &[u8], streams: usize, property: usize) -> Session
     requires { ⌜ verdictOf (now file) ≡ accepted (record { streams = streams; property = property }) ⌝ }
     ensures { λ r. ⌜ r ≡ begunOn (now (file .entry)) ⌝ }
@@ -41,9 +41,11 @@ fn session_on(file: &[u8], streams: usize, property: usize) -> Session
     Session {
         length,
         last: [0i64; 64],
+        trial: [0i64; 64],
         file,
         started: 0,
-        spare: [0u8; 7],
+        held: 0,
+        spare: [0u8; 6],
     }
 }
 

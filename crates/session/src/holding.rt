@@ -5,7 +5,7 @@ use node::type_among;
 use streams::is_typed;
 use streams::number_at;
 ghost use mathlib.Core.Path.{_≡_};
-ghost use mathlib.Core.Bool.{true};
+ghost use mathlib.Core.Bool.{true, _||_};
 ghost use lib.ListN.{length, take};
 ghost use Rattle.answers.specs.Checks.{every};
 ghost use Rattle.node.specs.Layout.{recordsOf, streamsOf};
@@ -40,10 +40,21 @@ fn are_typed(file: &[u8], values: &[i64], n: usize) -> bool
     true
 }
 
-// The node of a file: before instant 0, or with the last answered values.
-fn node_in(file: &[u8], first: bool, last: &[i64]) -> Held
-    ensures { λ r. ⌜ r .node ≡ nodeIn (now (file .entry)) first (now (last .entry)) ⌝ }
-    ensures { λ r. ⌜ (isNode (now (file .entry)) first (now (last .entry)) ≡ true → take (streamsOf (now (file .entry))) (r .order) ≡ orderOf (now (file .entry))) ⌝ }
+// The same, unless there are no values to look at.
+fn typed_unless(none: bool, file: &[u8], values: &[i64], n: usize) -> bool
+    requires { ⌜ n ≡ recordsOf (now file) ⌝ }
+    ensures { λ r. ⌜ r ≡ (none || every (valueTyped (now (file .entry)) (now (values .entry))) n) ⌝ }
+{
+    if none {
+        return true;
+    }
+    are_typed(file, values, n)
+}
+
+// The node of a file: before instant 0, or with the last committed values; and free of a trial, or with a trial's.
+fn node_in(file: &[u8], first: bool, last: &[i64], free: bool, trial: &[i64]) -> Held
+    ensures { λ r. ⌜ r .node ≡ nodeIn (now (file .entry)) first (now (last .entry)) free (now (trial .entry)) ⌝ }
+    ensures { λ r. ⌜ (isNode (now (file .entry)) first (now (last .entry)) free (now (trial .entry)) ≡ true → take (streamsOf (now (file .entry))) (r .order) ≡ orderOf (now (file .entry))) ⌝ }
 {
     let node = read(file);
     let order = node.order;
@@ -53,7 +64,7 @@ fn node_in(file: &[u8], first: bool, last: &[i64]) -> Held
             streams,
             property: _,
         } => {
-            if first | are_typed(file, last, streams) {
+            if typed_unless(first, file, last, streams) & typed_unless(free, file, trial, streams) {
                 Held {
                     node: HeldNode::Streams(streams),
                     order,
@@ -73,10 +84,17 @@ fn node_in(file: &[u8], first: bool, last: &[i64]) -> Held
 }
 
 // The node of a record with these parts. A record is anyone's to fill: its length is looked at before its file is.
-pub fn node_held(file: &[u8], size: usize, first: bool, last: &[i64]) -> Held
+pub fn node_held(
+    file: &[u8],
+    size: usize,
+    first: bool,
+    last: &[i64],
+    free: bool,
+    trial: &[i64],
+) -> Held
     requires { ⌜ length (now file) ≡ 1040 ⌝ }
-    ensures { λ r. ⌜ r .node ≡ nodeHeld (now (file .entry)) size first (now (last .entry)) ⌝ }
-    ensures { λ r. ⌜ (holds (now (file .entry)) size first (now (last .entry)) ≡ true → take (streamsOf (take size (now (file .entry)))) (r .order) ≡ orderOf (take size (now (file .entry)))) ⌝ }
+    ensures { λ r. ⌜ r .node ≡ nodeHeld (now (file .entry)) size first (now (last .entry)) free (now (trial .entry)) ⌝ }
+    ensures { λ r. ⌜ (holds (now (file .entry)) size first (now (last .entry)) free (now (trial .entry)) ≡ true → take (streamsOf (take size (now (file .entry)))) (r .order) ≡ orderOf (take size (now (file .entry)))) ⌝ }
 {
     if 1040 < size {
         return Held {
@@ -84,5 +102,5 @@ pub fn node_held(file: &[u8], size: usize, first: bool, last: &[i64]) -> Held
             order: [0usize; 64],
         };
     }
-    node_in(&file[..size], first, last)
+    node_in(&file[..size], first, last, free, trial)
 }

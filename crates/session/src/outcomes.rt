@@ -1,4 +1,4 @@
-// The answer to an instant's call, and its values.
+// The answer to a trial and to the old call, and its values.
 use crate::Session;
 use crate::holding::HeldNode;
 use crate::holding::node_held;
@@ -39,8 +39,9 @@ pub fn outcome_of(s: Session, inputs: &[i64], room: usize) -> Outcome
     let length = s.length;
     let file = s.file;
     let last = s.last;
+    let trial = s.trial;
     let first = s.started == 0;
-    let held = node_held(&file, length, first, &last);
+    let held = node_held(&file, length, first, &last, s.held == 0, &trial);
     let found = held.node;
     let HeldNode::Streams(n) = found else {
         return refused(refusals::NO_NODE, Place::File);

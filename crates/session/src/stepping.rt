@@ -1,64 +1,27 @@
-// An instant's call, by value: record and slice after its answer.
+// The old call, by value.
 use crate::Session;
-use crate::outcomes::outcome_of;
+use crate::committing::moved_on;
+use crate::trying::Stepped;
+use crate::trying::tried;
 use answers::InstantVerdict;
-ghost use Prim.Native.Nat.{_≤_};
 ghost use mathlib.Core.Path.{_≡_};
-ghost use mathlib.Core.List.{_++_};
-ghost use lib.ListN.{length, take, drop};
+ghost use lib.ListN.{length};
 ghost use Rattle.answers.specs.Answer.{instantAnswer};
-ghost use Rattle.session.specs.Instants.{answerOf, movedTo, sessionOf, sliceOf};
+ghost use Rattle.session.specs.Instants.{answerOf, sliceOf, sessionOf};
 
-// The answer, and the record that the call leaves.
-pub struct Stepped {
-    pub answer: InstantVerdict,
-    pub session: Session,
-}
-
-// The slice takes the first n values.
-fn fill(out: &mut [i64], values: [i64; 64], n: usize)
-    requires { ⌜ (n ≤ length (now out)) × (n ≤ 64) ⌝ }
-    ensures { λ r. ⌜ now (out .exit) ≡ take n values ++ drop n (now (out .entry)) ⌝ }
-{
-    let mut i = 0;
-    while i < n {
-        out[i] = values[i];
-        i += 1;
-    }
-}
-
-// The record with an answered instant's values.
-fn moved_to(s: Session, values: [i64; 64]) -> Session
-    ensures { λ r. ⌜ r ≡ movedTo s values ⌝ }
-{
-    let file = s.file;
-    Session {
-        length: s.length,
-        last: values,
-        file,
-        started: 1,
-        spare: [0u8; 7],
-    }
-}
-
-// An instant's call. Record and slice are written once nothing can be refused any more.
+// The old call: a trial, and where it is answered its commit.
 pub fn step(s: Session, inputs: &[i64], out: &mut [i64]) -> Stepped
     ensures { λ r. ⌜ (instantAnswer (r .answer) ≡ answerOf s (now (inputs .entry)) (length (now (out .entry))))
         × (r .session ≡ sessionOf s (now (inputs .entry)) (length (now (out .entry))))
         × (now (out .exit) ≡ sliceOf s (now (inputs .entry)) (now (out .entry))) ⌝ }
 {
-    let room = out.len();
-    let outcome = outcome_of(s, inputs, room);
-    let answer = outcome.answer;
+    let t = tried(s, inputs, out);
+    let answer = t.answer;
     match answer {
-        InstantVerdict::Answered => {
-            let values = outcome.values;
-            fill(out, values, room);
-            Stepped {
-                answer: InstantVerdict::Answered,
-                session: moved_to(s, values),
-            }
-        }
+        InstantVerdict::Answered => Stepped {
+            answer: InstantVerdict::Answered,
+            session: moved_on(t.session),
+        },
         InstantVerdict::Refused(number, place) => Stepped {
             answer: InstantVerdict::Refused(number, place),
             session: s,

@@ -1,6 +1,6 @@
 -- Demand 3 from its parts: one solution, a sound certificate, exact sessions.
 -- Assumes nothing.
-use mathlib.Core.Path.{_≡_, _∙_}
+use mathlib.Core.Path.{_≡_, _∙_, subst}
 use mathlib.Core.List.{List}
 use Prim.Native.Nat.{ℕ}
 use native.Mathlib.Omega.{arith}
@@ -11,10 +11,14 @@ use Rattle.node.proofs.FileRules.{sizes}
 use Rattle.node.proofs.Outcomes.{accepted-keeps as node-keeps, keeps-accepted}
 use Rattle.rules.proofs.Outcomes.{accepted-keeps}
 use Rattle.streams.proofs.AcceptedNodes.{one-solution}
-use Rattle.session.specs.Lists.{Answered}
-use Rattle.session.specs.Theorems.{Shows}
+use Rattle.streams.proofs.Reading.{all-map}
+use Rattle.session.specs.Events.{Run, begunRun, runs}
+use Rattle.session.specs.Lists.{Answered, answered}
+use Rattle.session.specs.Records.{begunOf}
+use Rattle.session.specs.Theorems.{Shows, RunShows}
+use Rattle.session.proofs.OldCalls.{oldCalls, only-run, only-shown}
 use Rattle.session.proofs.Sessions.{sessions-exact}
-use Rattle.soundness.specs.Demands.{ShowsProperty, DemandFor, Demand3}
+use Rattle.soundness.specs.Demands.{ShowsProperty, RunProperty, DemandFor, Demand3, CallsDemandFor}
 use Rattle.rules.specs.Theorems.{PropertyHolds, Covers}
 use Rattle.rules.specs.Versions.{Version, version2}
 use Rattle.rules.proofs.Soundness.{current-covers}
@@ -28,17 +32,41 @@ property-shown node e holds done shows t l =
     shows .shown t l (of-w .inputs) (of-w .typed) (λ j m. of-w .starts j (omega arith)) w (of-w .solves) (propertyOf node) (sizes node (node-keeps node e .file) .property)
     ∙ holds (of-w .inputs) (of-w .typed) w (of-w .solves) t
 
+-- the same of a run on the node
+run-property : (node : List ℕ) {v : NodeValues} → nodeVerdict node ≡ accepted v → PropertyHolds node → (r : Run) → RunShows r → r .node ≡ node → RunProperty node r
+run-property node e holds r shows on-node =
+    let shown : (done : List Answered) → Shows (r .node) done → ShowsProperty node done = λ done s. property-shown node e holds done (subst (λ (n : List ℕ). Shows n done) on-node s) in
+    record {
+      commits = shown (r .done) (shows .commits);
+      trials = all-map {P = Shows (r .node)} {Q = ShowsProperty node} shown (r .tried) (shows .trials);
+    }
+
 pub demand-for : (version : Version) → Covers version → DemandFor version
-demand-for version covers node cert v e before calls =
+demand-for version covers node cert v e before events =
     let begins = keeps-accepted node (accepted-keeps version node cert e .node-rules) in
-    let exact = sessions-exact node _ begins before calls in
+    let holds = sound-for version covers node cert v e in
+    let exact = sessions-exact node _ begins before events in
     record {
       one-solution = one-solution node begins;
-      property = sound-for version covers node cert v e;
+      property = holds;
       begins = begins;
       shows = exact .0;
-      shows-property = property-shown node begins (sound-for version covers node cert v e) _ (exact .0);
+      shows-property = all-map {P = RunShows} {Q = λ r. r .node ≡ node → RunProperty node r} (run-property node begins holds) (runs (begunOf node before) (begunRun node) events) (exact .0);
     }
 
 pub demand-3 : Demand3
 demand-3 = demand-for version2 current-covers
+
+-- a list of the old call alone is a case
+pub calls-demand-for : (version : Version) → Covers version → CallsDemandFor version
+calls-demand-for version covers node cert v e before calls =
+    let s = begunOf node before in
+    let demanded = demand-for version covers node cert v e before (oldCalls calls) in
+    let shows = only-run node s calls Shows (only-shown node s calls (demanded .shows) .commits) in
+    record {
+      one-solution = demanded .one-solution;
+      property = demanded .property;
+      begins = demanded .begins;
+      shows = shows;
+      shows-property = property-shown node (demanded .begins) (demanded .property) (answered s calls) shows;
+    }

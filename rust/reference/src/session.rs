@@ -1,4 +1,4 @@
-//! A session: a node run instant by instant, refusals 30 to 34.
+//! A session: a node run instant by instant, with trials, refusals 30 to 35.
 
 use crate::answer::{Place, Refusal};
 use crate::node::{self, Equation, Node, Type, MAX_BODY, MAX_STREAMS};
@@ -10,18 +10,23 @@ type Values = [i64; MAX_STREAMS];
 /// The session record. 01: "The caller lends the session record, and an
 /// answered instant moves that very record on."
 ///
-/// The fields are open, so a caller may lend anything: an instant's call
-/// checks its record anew each time.
+/// The fields are open, so a caller may lend anything: an instant's call, a
+/// trial and a commit check their record anew each time.
 #[derive(Clone, Debug, PartialEq, Eq)]
 pub struct Record {
     /// The length of the node file held; over 1,040 no node is held.
     pub length: usize,
     /// The node file without its note, zeros after it.
     pub bytes: [u8; MAX_BODY],
-    /// Whether an instant was answered: the session is past instant 0.
+    /// Whether an instant was committed, by an instant's call too: the session
+    /// is past instant 0.
     pub answered: bool,
-    /// The values of the last answered instant; zeros before instant 0.
+    /// The values of the last committed instant; zeros before instant 0.
     pub last: Values,
+    /// Whether a trial is held.
+    pub held: bool,
+    /// The values of the held trial; zeros where none is held.
+    pub trial: Values,
 }
 
 impl Record {
@@ -32,6 +37,8 @@ impl Record {
             bytes: [0; MAX_BODY],
             answered: false,
             last: [0; MAX_STREAMS],
+            held: false,
+            trial: [0; MAX_STREAMS],
         }
     }
 
@@ -41,9 +48,18 @@ impl Record {
         node::read(self.bytes.get(..self.length)?).ok()
     }
 
-    /// The values one instant before, if there is such an instant.
+    /// The values one instant before, if there is such an instant. A held trial
+    /// is none.
     fn before(&self) -> Option<&Values> {
         self.answered.then_some(&self.last)
+    }
+
+    /// Moves on to an instant with these values, and holds no trial.
+    fn advance(&mut self, now: &Values) {
+        self.last = *now;
+        self.answered = true;
+        self.trial = [0; MAX_STREAMS];
+        self.held = false;
     }
 }
 
@@ -54,7 +70,8 @@ impl Default for Record {
 }
 
 /// 01: "Beginning takes a node file, checked by 1 to 8, and sets the record
-/// to its node, before instant 0." It is checked by 23 too.
+/// to its node, before instant 0." It is checked by 23 too. No trial is held
+/// then.
 pub fn begin(record: &mut Record, file: &[u8]) -> Result<(), Refusal> {
     let node = node::read(file)?;
     let body = node.body();
@@ -67,29 +84,69 @@ pub fn begin(record: &mut Record, file: &[u8]) -> Result<(), Refusal> {
 }
 
 /// 01: "An instant's call takes one signed 64-bit number an input, in record
-/// order (bool: 0 or 1), and fills a lent slice of n values."
-///
-/// A refusal is met before the record or the slice is written.
+/// order (bool: 0 or 1), and fills a lent slice of n values." 02: "The old call
+/// means a trial and its commit."
 pub fn instant(record: &mut Record, inputs: &[i64], values: &mut [i64]) -> Result<(), Refusal> {
+    let mut now = [0; MAX_STREAMS];
+    fill(record, inputs, &mut now, values)?;
+    record.advance(&now);
+    Ok(())
+}
+
+/// 02: "Trial fills the value slice and keeps the values in the session without
+/// advancing." And: "A second trial replaces the first, and a refused trial
+/// keeps the earlier one."
+pub fn trial(record: &mut Record, inputs: &[i64], values: &mut [i64]) -> Result<(), Refusal> {
+    let mut now = [0; MAX_STREAMS];
+    fill(record, inputs, &mut now, values)?;
+    record.trial = now;
+    record.held = true;
+    Ok(())
+}
+
+/// 02: "Commit advances to the last trial and then, like beginning, holds
+/// none." Refusal 35: "commit with no trial held, after 30".
+pub fn commit(record: &mut Record) -> Result<(), Refusal> {
+    checked_node(record)?;
+    if !record.held {
+        return Err(Refusal::file(35));
+    }
+    let now = record.trial;
+    record.advance(&now);
+    Ok(())
+}
+
+/// Refusals 30 to 34; else `now`, lent as zeros, and the slice take the values
+/// on the committed inputs and these.
+///
+/// A refusal is met before the slice is written, and the record waits for the
+/// answer.
+fn fill(
+    record: &Record,
+    inputs: &[i64],
+    now: &mut Values,
+    values: &mut [i64],
+) -> Result<(), Refusal> {
     let node = checked_node(record)?;
     check_lengths(&node, inputs, values)?;
     check_inputs(&node, inputs)?;
-    let now = work_out(&node, record.before(), inputs)?;
-    let now = &now[..node.count()];
-    values.copy_from_slice(now);
-    record.last[..now.len()].copy_from_slice(now);
-    record.answered = true;
+    work_out(&node, record.before(), inputs, now)?;
+    values.copy_from_slice(&now[..node.count()]);
     Ok(())
 }
 
 /// Refusal 30: "record holds no node passing 1 to 8, or, past instant 0, a
-/// bool of the last answered instant is not 0 or 1"; 23 is as 1 to 8 are.
+/// bool of the last answered instant is not 0 or 1"; 23 is as 1 to 8 are. 02:
+/// it "looks at a held trial's bools too".
 fn checked_node(record: &Record) -> Result<Node<'_>, Refusal> {
     let node = record.node().ok_or(Refusal::file(30))?;
     let in_type = |(kind, value): (&Type, &i64)| *kind == Type::Int || is_bool(*value);
-    match record.before() {
-        Some(last) if !node.types().iter().zip(last).all(in_type) => Err(Refusal::file(30)),
-        _ => Ok(node),
+    let are_typed = |values: &Values| node.types().iter().zip(values).all(in_type);
+    let held = record.held.then_some(&record.trial);
+    if record.before().is_none_or(are_typed) && held.is_none_or(are_typed) {
+        Ok(node)
+    } else {
+        Err(Refusal::file(30))
     }
 }
 
@@ -122,16 +179,20 @@ fn is_bool(value: i64) -> bool {
 /// 01: "All n streams are worked out, untaken branches too." Refusal 34:
 /// "value outside −2^63 to 2^63 − 1". 02: "34 names the first stream in the
 /// worked-out order".
-fn work_out(node: &Node, before: Option<&Values>, inputs: &[i64]) -> Result<Values, Refusal> {
-    let mut now = [0; MAX_STREAMS];
+fn work_out(
+    node: &Node,
+    before: Option<&Values>,
+    inputs: &[i64],
+    now: &mut Values,
+) -> Result<(), Refusal> {
     for (&stream, &input) in node.inputs().iter().zip(inputs) {
         now[usize::from(stream)] = input;
     }
     for i in node.order().iter().copied().map(usize::from) {
-        let value = value(i, node.equations()[i], &now, before);
+        let value = value(i, node.equations()[i], now, before);
         now[i] = wide::narrow(value).ok_or(Refusal::new(34, Place::Record(i)))?;
     }
-    Ok(now)
+    Ok(())
 }
 
 /// Stream `own`'s value in its operator's row, however wide. The operands

@@ -11,7 +11,7 @@ use reference::build::{search, BOOL, INT};
 use reference::certificate::check;
 use reference::node::{self, Node, Type};
 use reference::ranges;
-use reference::session::{begin, instant, Record as Session};
+use reference::session::{begin, commit, instant, trial, Record as Session};
 use std::fs;
 use std::process::Command;
 
@@ -107,7 +107,7 @@ fn only_the_forged_are_refused() {
     let refused = |folder: &&Folder| !folder.verdict.starts_with("accepted");
     let names: Vec<&str> = folders.iter().filter(refused).map(Folder::name).collect();
     assert_eq!(names, REFUSED);
-    assert_eq!(folders.len(), 19);
+    assert_eq!(folders.len(), 20);
 }
 
 /// 02: "Version 1 files are now refused with 12."
@@ -256,4 +256,48 @@ fn minutes_are_booked_while_the_slots_have_room() {
     assert_eq!(run("half-minutes", &asked, 10), [1; 5]);
     assert_eq!(run("forged-minutes", &asked, 8), halves);
     assert_eq!(run("forged-minutes", &asked, 10), [0; 5]);
+}
+
+/// The events of a pass: kind, inputs and the length of the lent slice.
+fn events(mut bytes: &[u8]) -> Vec<(u16, Vec<i64>, usize)> {
+    let mut events = Vec::new();
+    while let Some((head, rest)) = bytes.split_first_chunk::<6>() {
+        let [kind, count, room] = [0, 2, 4].map(|at| u16::from_le_bytes([head[at], head[at + 1]]));
+        let (inputs, rest) = rest.split_at(8 * usize::from(count));
+        let inputs = inputs.as_chunks().0.iter().copied().map(i64::from_le_bytes);
+        events.push((kind, inputs.collect(), usize::from(room)));
+        bytes = rest;
+    }
+    events
+}
+
+/// What is printed of an answer.
+fn shown(answer: Result<(), Refusal>, values: &[i64]) -> String {
+    match answer {
+        Ok(()) => values.iter().fold("answered".to_string(), |line, value| {
+            format!("{line} {value}")
+        }),
+        Err(refusal) => format!("{refusal} kept"),
+    }
+}
+
+#[test]
+fn a_pass_is_as_written() {
+    let folder = named("on-duty");
+    let mut session = Session::new();
+    begin(&mut session, &folder.node).unwrap();
+    let mut said = vec!["pass.bin: begun streams 12".to_string()];
+    for (kind, inputs, room) in events(&fs::read(folder.path.join("pass.bin")).unwrap()) {
+        let mut values = vec![7; room];
+        said.push(match kind {
+            1 => {
+                let answer = trial(&mut session, &inputs, &mut values);
+                format!("trial: {}", shown(answer, &values))
+            }
+            2 => format!("commit: {}", shown(commit(&mut session), &[])),
+            _ => shown(instant(&mut session, &inputs, &mut values), &values),
+        });
+    }
+    let written = fs::read_to_string(folder.path.join("says")).unwrap();
+    assert_eq!(said, written.lines().collect::<Vec<_>>());
 }

@@ -6,19 +6,19 @@ use lib.ListN.{length}
 use mathlib.Core.Path.{_≡_, refl, sym, _∙_}
 use native.Mathlib.Omega.{arith}
 use lib.Seq.{length-take-le}
-use Rattle.run_passes.proofs.Calls.{size-within, one-made, all-made}
-use Rattle.run_passes.specs.Pass.{firstSize, callsOf}
-use Rattle.session.specs.Lists.{afterAll}
+use Rattle.run_passes.proofs.PassEvents.{size-within, one-made, all-made}
+use Rattle.run_passes.specs.Pass.{firstSize, eventsOf}
+use Rattle.session.specs.Events.{afterEvents}
 use borrow.Author.Needs.{needs}
 use Rattle.run_passes.proofs.run.Statement.{statement}
 use Rattle.run_passes.proofs.run.Tie as tie
 
 abbrev Inv-loop : tie.InvT-loop
-Inv-loop calls s₀ left₀ size₀ s left size =
-    (size ≡ firstSize left) × (size ≤ length left) × (afterAll s (callsOf left) ≡ afterAll s₀ (callsOf left₀))
+Inv-loop events s₀ left₀ size₀ s left size =
+    (size ≡ firstSize left) × (size ≤ length left) × (afterEvents s (eventsOf left) ≡ afterEvents s₀ (eventsOf left₀))
 
 abbrev μ-loop : tie.MeasureT-loop
-μ-loop calls s₀ left₀ size₀ s left size = length left
+μ-loop events s₀ left₀ size₀ s left size = length left
 
 first-size-requires : tie.Need-first-size-requires Inv-loop μ-loop
 first-size-requires c κs = search needs
@@ -26,11 +26,11 @@ first-size-requires c κs = search needs
 loop-holds : tie.Need-loop-holds Inv-loop μ-loop
 loop-holds c = (c .first-size .ensures, rw (c .first-size .ensures) (size-within _), refl)
 
-slice-aggregate-called : tie.Need-slice-aggregate-called Inv-loop μ-loop
-slice-aggregate-called c = sym (length-take-le _ _ (omega arith))
+slice-aggregate-after-event : tie.Need-slice-aggregate-after-event Inv-loop μ-loop
+slice-aggregate-after-event c = sym (length-take-le _ _ (omega arith))
 
-called-requires : tie.Need-called-requires Inv-loop μ-loop
-called-requires c κs = search needs
+after-event-requires : tie.Need-after-event-requires Inv-loop μ-loop
+after-event-requires c κs = search needs
 
 sub-left : tie.Need-sub-left Inv-loop μ-loop
 sub-left c = search needs
@@ -52,7 +52,7 @@ loop-again c =
     let at = c .before .before .before .before .before .loop in (
       c .first-size2 .ensures,
       rw (c .first-size2 .ensures) (size-within _),
-      one-made (at .s) (now (at .left)) (at .size) (at .inv .0) _ (omega (arith, c .before .before .before .before .loop-test .taken)) (c .before .before .called .ensures) ∙ at .inv .2,
+      one-made (at .s) (now (at .left)) (at .size) (at .inv .0) _ (omega (arith, c .before .before .before .before .loop-test .taken)) (c .before .before .after-event .ensures) ∙ at .inv .2,
     )
 
 returns : tie.Need-returns Inv-loop μ-loop
@@ -68,8 +68,8 @@ run-spec =
     μ-loop
     first-size-requires
     loop-holds
-    slice-aggregate-called
-    called-requires
+    slice-aggregate-after-event
+    after-event-requires
     sub-left
     part-left-start
     part-left-end

@@ -2,7 +2,7 @@
 -- Assumes nothing.
 use mathlib.Core.Path.{_∙_}
 use borrow.Author.Needs.{needs}
-use Rattle.run_passes.proofs.Calls.{count-none, count-few, count-many}
+use Rattle.run_passes.proofs.PassEvents.{count-none, count-few, count-many}
 use Rattle.run_passes.proofs.pass.count_at.Statement.{statement}
 use Rattle.run_passes.proofs.pass.count_at.Tie as tie
 

@@ -3,7 +3,7 @@
 use mathlib.Core.Path.{_∙_, ap}
 use Prim.Native.Nat.{ℕ, _+_, _*_}
 use borrow.Author.Needs.{needs}
-use Rattle.run_passes.proofs.Calls.{size-none, size-cut, size-whole}
+use Rattle.run_passes.proofs.PassEvents.{size-none, size-cut, size-whole}
 use Rattle.run_passes.proofs.pass.first_size.Statement.{statement}
 use Rattle.run_passes.proofs.pass.first_size.Tie as tie
 
@@ -28,7 +28,7 @@ returns-2 c = size-cut _ (c .before .before .if1 .left) (rw (c .before .u16-at .
 returns-3 : tie.Need-returns-3
 returns-3 c =
     let read = c .before .u16-at .ensures in
-    ap (λ (n : ℕ). 4 + 8 * n) read ∙ size-whole _ (c .before .before .if1 .left) (rw read at (c .if2 .left))
+    ap (λ (n : ℕ). 6 + 8 * n) read ∙ size-whole _ (c .before .before .if1 .left) (rw read at (c .if2 .left))
 
 pub first-size-spec : {M : Type 1} → statement M
 first-size-spec =

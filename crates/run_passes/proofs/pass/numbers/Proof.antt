@@ -5,7 +5,7 @@ use mathlib.Core.List.{List}
 use Prim.Native.Nat.{ℕ}
 use denote.Ref.{now}
 use Rattle.numbers.specs.Numbers.{numbersFrom}
-use Rattle.run_passes.proofs.Calls.{whole-rest, no-inputs}
+use Rattle.run_passes.proofs.PassEvents.{whole-rest, no-inputs}
 use borrow.Author.Needs.{needs}
 use Rattle.run_passes.proofs.pass.numbers.Statement.{statement}
 use Rattle.run_passes.proofs.pass.numbers.Tie as tie
@@ -28,10 +28,10 @@ read-numbers-requires c κs = search needs
 returns : tie.Need-returns
 returns c =
     c .before .read-numbers .ensures
-    ∙ ap (λ (l : List ℕ). numbersFrom l 0 65) (whole-rest (now (c .before .before .before .before .before .before .args .call)) 4)
+    ∙ ap (λ (l : List ℕ). numbersFrom l 0 65) (whole-rest (now (c .before .before .before .before .before .before .args .event)) 6)
 
 returns-2 : tie.Need-returns-2
-returns-2 c = sym (no-inputs (now (c .before .before .args .call)) (c .if1 .left))
+returns-2 c = sym (no-inputs (now (c .before .before .args .event)) (c .if1 .left))
 
 pub numbers-spec : {M : Type 1} → statement M
 numbers-spec =

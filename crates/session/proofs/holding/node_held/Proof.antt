@@ -12,7 +12,7 @@ use Rattle.session.proofs.holding.node_held.Tie as tie
 returns : tie.Need-returns
 returns c =
     let a = c .before .before .args in
-    (too-long _ _ _ _ (c .if1 .taken), λ e. not-held (now (a .file)) (a .size) (a .first) (now (a .last)) (c .if1 .taken) e)
+    (too-long _ _ _ _ _ _ (c .if1 .taken), λ e. not-held (now (a .file)) (a .size) (a .first) (now (a .last)) (a .free) (now (a .trial)) (c .if1 .taken) e)
 
 slice-aggregate-node-in : tie.Need-slice-aggregate-node-in
 slice-aggregate-node-in c = sym (length-take-le _ _ (omega (arith, c .before .before .before .pre)))
@@ -23,7 +23,7 @@ node-in-requires c κs = search needs
 returns-2 : tie.Need-returns-2
 returns-2 c =
     let a = c .before .before .before .before .args in
-    (c .node-in .ensures .0 ∙ short-enough _ _ _ _ (search needs), λ e. c .node-in .ensures .1 (short-holds (now (a .file)) (a .size) (a .first) (now (a .last)) e))
+    (c .node-in .ensures .0 ∙ short-enough _ _ _ _ _ _ (search needs), λ e. c .node-in .ensures .1 (short-holds (now (a .file)) (a .size) (a .first) (now (a .last)) (a .free) (now (a .trial)) e))
 
 pub node-held-spec : {M : Type 1} → statement M
 node-held-spec =

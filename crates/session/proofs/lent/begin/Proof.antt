@@ -13,15 +13,15 @@ use base.Logic.{SProp, ent, emp, via, fst∗, snd∗, exE, id⊢}
 use base.Fml.{Lft, Share, GName, Fml, ftrue, fat, flft, fobs, fbor}
 use prog.Memory.{Memory}
 use prog.Routine.{Routine}
-use prog.Wp.{Heap, Calls, Loops, WpFn, Tables}
+use prog.Wp.{Heap, Calls, Loops, WpFn}
 use ghost.Atoms.{Atoms, sem}
 use contract.Monad.{Fun, fact}
-use contract.Running.{givenOf, tables, tablesOf}
+use contract.Running.{givenOf}
 use types.Kit.{Given, Item, ‵, raw, some, later, _⊛_, ⋆, _$_, _∵_, !, qed, by, move, keep, drop, use1, use2, split, join, pick, rewrite, fsplit, fsplit3, fjoin, fjoin3, feqI, suffices, frame, await, done}
 use types.Run.{look, look-raw, init, store-raw, stop, hop, fld, from, load, of-opd, and-then, no-more, assigns, land, returns, enter, alloc1, alloc0, params1, pass1, pass0, free0}
 use types.Part.{whole, sub, look-in}
 use types.SemTy.{Body}
-use sound.WpLaws.{FmC, fmOf, WpFn-mono}
+use sound.WpLaws.{FmC}
 use denote.RattleType.{owns}
 use denote.Memory.{mem}
 use denote.Laws.{Is, shows}
@@ -32,12 +32,11 @@ use denote.Steps.{only, owned, peeks, heard, nothing}
 use denote.Struct.Laws as LL
 use denote.Enum.Laws as EL
 use denote.Triple.Entry.{onEntry}
-use denote.Triple.Spec.{Meets, tripleOf}
+use denote.Triple.Spec.{tripleOf}
 use denote.Triple.Statement.{Contract, Triple}
 use denote.Triple.Call.{calls-at}
 use denote.Triple.Clauses.{ensured, lasts}
-use denote.Triple.Table.{entered, cited}
-use denote.Triple.Walked.{says, Stays, stay-ref, stay-none-slice, walkOf, goes-ref, goes-none-slice, Walks, ends-at, walked, walk-meets}
+use denote.Triple.Walked.{says, Stays, stay-ref, stay-none-slice, walkOf, goes-ref, goes-none-slice, Walks, ends-at, walked}
 use denote.Exit.{yes}
 use denote.Signature.{plain}
 use Rattle.answers.specs.declared.NodeVerdict.{NodeVerdict}
@@ -48,9 +47,9 @@ use Rattle.node.specs.Verdict.{verdictOf}
 use Rattle.session.specs.declared.Session.{Session}
 use Rattle.session.specs.declared.beginning.BegunSession.{BegunSession}
 use Rattle.session.specs.Records.{begunOf}
-use Rattle.session.proofs.Kept.{Lent, mach, Held, fits, made, opened, closed, freed}
+use Rattle.session.proofs.Kept.{mach, Held, fits, made, opened, closed, freed, by-walk}
+use Rattle.session.proofs.LentRecord.{lent}
 use Rattle.session.proofs.Session as Record
-use Rattle.session.proofs.Session.Laws as Record′
 use Rattle.session.proofs.beginning.BegunSession as Result
 use Rattle.session.proofs.beginning.BegunSession.Laws as Result′
 use Rattle.session.proofs.beginning.begun as callee
@@ -64,10 +63,6 @@ use Rattle.session.proofs.lent.begin.Code as code
 
 abbrev stayed : Stays (me.ended .signature .params) (me.ended .kept)
 stayed = (stay-ref (0 ∷ []) tt (plain (λ _. Record.the-row)), (stay-none-slice (1 ∷ []) tt (plain (λ _. u8)) yes, tt))
-
--- the record that is lent
-abbrev lent : Lent
-lent = record { type = Record.the-type; laws = Record′.the-laws; plain = Record′.the-plain }
 
 -- the contract that the walk cites
 abbrev Callee : {M : Type 1} (𝓤 : URA M) (H : Heap 𝓤) (A : Atoms 𝓤) (mem : Memory → SProp 𝓤) (run : Routine → Fun 𝓤) → Contract 𝓤
@@ -162,16 +157,10 @@ module _ {M : Type 1} (𝓤 : URA M) (H : Heap 𝓤) (A : Atoms 𝓤) (W : Given
       walked 𝓤 H A me.ended stayed (me.clauses 𝓤 H A mem run) (WpFn 𝓤 H C Λ code.function) (λ κs. (ptr-vals, (slice-vals, tt))) (λ κs. (mut-tells (named 0) (κs .0) Record.the-row, (shr-slice-tells (named 1) (κs .1 .0) u8, tt)))
       (λ κs qs bounds a g are. via 𝓤 _ (fst∗ 𝓤 _ (emp 𝓤)) (walk 𝓤 H A W mem run (κs .0) (κs .1 .0) (qs .0) (qs .1 .0) (a .0 .ptr .0) (a .0 .ptr .1) (a .0 .name) (a .0 .now) (a .1 .0) C Λ fm known (are .1 .0)))
 
-meets : {M : Type 1} (𝓤 : URA M) (H : Heap 𝓤) (A : Atoms 𝓤) → Given 𝓤 H A → (mem : Memory → SProp 𝓤) (run : Routine → Fun 𝓤) (𝓣 : Tables 𝓤 H) → Triple 𝓤 (𝓣 .C #callee) (Callee 𝓤 H A mem run)
-    → Meets 𝓤 H A me.signature (WpFn 𝓤 H (𝓣 .C) (𝓣 .Λ) code.function) (me.spec 𝓤 H A mem run)
-meets 𝓤 H A W mem run 𝓣 known =
-    walk-meets 𝓤 H A me.ended stayed W (goes-ref 𝓤 H A W 2 0 tt (plain (λ _. Record.the-row)), (goes-none-slice 𝓤 H A W 2 (1 ∷ []) tt (plain (λ _. u8)) yes, tt)) (me.clauses 𝓤 H A mem run)
-    (WpFn 𝓤 H (𝓣 .C) (𝓣 .Λ) code.function) (WpFn-mono 𝓤 H (W .laws) 𝓣 code.function) (walks 𝓤 H A W mem run (𝓣 .C) (𝓣 .Λ) (fmOf 𝓤 H (W .laws) 𝓣) known)
-
 pub begin-spec : {M : Type 1} → stated.statement M
-unfolding code.routine tablesOf
+unfolding code.routine
 begin-spec 𝓤 H 𝓜 𝓖 𝓡 =
-    entered 𝓤 H (tripleOf 𝓤 H (𝓖 .A) me.signature (me.spec 𝓤 H (𝓖 .A) (𝓜 .mem) (𝓡 .run)))
-    (tables 𝓤 H 𝓜 𝓡 code.env .C) (tables 𝓤 H 𝓜 𝓡 code.env .Λ) #me code.function (code.unfolded 𝓤 H 𝓜 𝓡)
-    (meets 𝓤 H (𝓖 .A) (givenOf 𝓤 H 𝓜 𝓖) (𝓜 .mem) (𝓡 .run) (tablesOf 𝓤 H 𝓜 (tables 𝓤 H 𝓜 𝓡 code.env))
-    (cited 𝓤 H (Callee 𝓤 H (𝓖 .A) (𝓜 .mem) (𝓡 .run)) 𝓜 𝓡 code.env #callee callee-def.routine code.calls-session·beginning·begun (callee-thm.met 𝓤 H 𝓜 𝓖 𝓡)))
+    let W : Given 𝓤 H (𝓖 .A) = givenOf 𝓤 H 𝓜 𝓖 in
+    by-walk 𝓤 H 𝓜 𝓖 𝓡 me.ended stayed (me.clauses 𝓤 H (𝓖 .A) (𝓜 .mem) (𝓡 .run)) (Callee 𝓤 H (𝓖 .A) (𝓜 .mem) (𝓡 .run))
+    (goes-ref 𝓤 H (𝓖 .A) W 2 0 tt (plain (λ _. Record.the-row)), (goes-none-slice 𝓤 H (𝓖 .A) W 2 (1 ∷ []) tt (plain (λ _. u8)) yes, tt))
+    code.env #me #callee code.function callee-def.routine (code.unfolded 𝓤 H 𝓜 𝓡) code.calls-session·beginning·begun (callee-thm.met 𝓤 H 𝓜 𝓖 𝓡) (walks 𝓤 H (𝓖 .A) W (𝓜 .mem) (𝓡 .run))

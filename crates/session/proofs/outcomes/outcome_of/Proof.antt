@@ -16,7 +16,7 @@ use Rattle.node.specs.Layout.{streamsOf}
 use Rattle.node.specs.Reads.{orderOf}
 use Rattle.node.proofs.FileRules.{Sizes}
 use Rattle.streams.specs.Instant.{inputFits, valueInside, firstAlong}
-use Rattle.session.specs.Records.{held, holdsNode}
+use Rattle.session.specs.Records.{heldFile, holdsNode}
 use Rattle.session.specs.Instants.{workedOut}
 use Rattle.session.proofs.Answering.{holds-none, holds-one, held-short, held-accepted, held-sizes, answer-by, refusal}
 use borrow.Author.Needs.{needs}
@@ -24,7 +24,10 @@ use Rattle.session.proofs.outcomes.outcome_of.Statement.{statement}
 use Rattle.session.proofs.outcomes.outcome_of.Tie as tie
 
 file-long : (c : tie.Start) → length (c .args .s .file) ≡ 1040
-file-long c = simp length-map at (c .good .0 .1 .1 .1 .1 .0 .1 .0 .1)
+file-long c = simp length-map at (c .good .0 .1 .1 .1 .1 .1 .0 .1 .0 .1)
+
+last-long : (c : tie.Start) → length (c .args .s .last) ≡ 64
+last-long c = simp length-map at (c .good .0 .1 .1 .1 .0 .1 .0 .1)
 
 slice-aggregate-node-held : tie.Need-slice-aggregate-node-held
 slice-aggregate-node-held c = search needs
@@ -32,8 +35,11 @@ slice-aggregate-node-held c = search needs
 slice-aggregate-node-held-2 : tie.Need-slice-aggregate-node-held-2
 slice-aggregate-node-held-2 c = search needs
 
+slice-aggregate-node-held-3 : tie.Need-slice-aggregate-node-held-3
+slice-aggregate-node-held-3 c = search needs
+
 node-held-requires : tie.Need-node-held-requires
-node-held-requires c κs = file-long (c .before .before .before .before .before)
+node-held-requires c κs = file-long (c .before .before .before .before .before .before .before .before)
 
 enum-known-found : tie.Need-enum-known-found
 enum-known-found c = search needs
@@ -45,10 +51,10 @@ refused-requires : tie.Need-refused-requires
 refused-requires c κs = search needs
 
 abbrev start-of : tie.After-known-told → tie.Start
-start-of c = c .before .before .before .before .before .before .before .before .before
+start-of c = c .before .before .before .before .before .before .before .before .before .before .before .before
 
 -- the node that was found is the record's
-one : (c : tie.After-known-told) → let s = start-of c .args .s in (holdsNode s ≡ true) × (c .before .found .given .0 .0 ≡ streamsOf (held s))
+one : (c : tie.After-known-told) → let s = start-of c .args .s in (holdsNode s ≡ true) × (c .before .found .given .0 .0 ≡ streamsOf (heldFile s))
 one c = holds-one _ (sym (c .before .before .before .node-held .ensures .0) ∙ c .before .found .given .1)
 
 abbrev told-of : tie.Else2 → tie.After-known-told
@@ -72,23 +78,23 @@ input-count-requires c κs = search needs
 refused-requires-2 : tie.Need-refused-requires-2
 refused-requires-2 c κs = search needs
 
-counted : (c : tie.Else1) → let a = start-of (c .before .before .before) .args in eqb (length (now (a .inputs))) (inputCount (held (a .s))) ≡ true
+counted : (c : tie.Else1) → let a = start-of (c .before .before .before) .args in eqb (length (now (a .inputs))) (inputCount (heldFile (a .s))) ≡ true
 counted c = rw (c .before .input-count .ensures) at (eq-eqb _ _ (c .if1 .left))
 
-sized : (c : tie.Else2) → let a = start-of (told-of c) .args in eqb (a .room) (streamsOf (held (a .s))) ≡ true
+sized : (c : tie.Else2) → let a = start-of (told-of c) .args in eqb (a .room) (streamsOf (heldFile (a .s))) ≡ true
 sized c = rw (one (told-of c) .1) at (eq-eqb _ _ (c .if2 .left))
 
-sizes : (c : tie.Else2) → Sizes (held (start-of (told-of c) .args .s))
+sizes : (c : tie.Else2) → Sizes (heldFile (start-of (told-of c) .args .s))
 sizes c = held-sizes _ (one (told-of c) .0)
 
 -- what the searches found is the definition's
-bad-is : (c : tie.After-first-bad) → let a = start-of (told-of (c .before)) .args in lowest (inputFits (held (a .s)) (now (a .inputs))) (streamsOf (held (a .s))) ≡ c .first-bad .result
+bad-is : (c : tie.After-first-bad) → let a = start-of (told-of (c .before)) .args in lowest (inputFits (heldFile (a .s)) (now (a .inputs))) (streamsOf (heldFile (a .s))) ≡ c .first-bad .result
 bad-is c = ap (lowest _) (sym (sizes (c .before) .records)) ∙ sym (c .first-bad .ensures)
 
-typed : (c : tie.After-enum-told2) → let a = start-of (told-of (c .before .before .before)) .args in lowest (inputFits (held (a .s)) (now (a .inputs))) (streamsOf (held (a .s))) ≡ Nothing
+typed : (c : tie.After-enum-told2) → let a = start-of (told-of (c .before .before .before)) .args in lowest (inputFits (heldFile (a .s)) (now (a .inputs))) (streamsOf (heldFile (a .s))) ≡ Nothing
 typed c = bad-is (c .before .before) ∙ c .enum-told2 .given .1
 
-outside-is : (c : tie.After-worked-out) → let a = start-of (told-of (c .before .before .before .before .before .before .before)) .args in firstAlong (orderOf (held (a .s))) (valueInside (workedOut (a .s) (now (a .inputs)))) ≡ c .worked-out .result .outside
+outside-is : (c : tie.After-worked-out) → let a = start-of (told-of (c .before .before .before .before .before .before .before)) .args in firstAlong (orderOf (heldFile (a .s))) (valueInside (workedOut (a .s) (now (a .inputs)))) ≡ c .worked-out .result .outside
 outside-is c = sym (c .worked-out .ensures .0)
 
 returns-2 : tie.Need-returns-2
@@ -146,7 +152,7 @@ slice-aggregate-worked-out c =
     sym (length-take-le _ (held-node .node-held .result .order) (omega (arith, few told, order-long held-node)))
 
 slice-aggregate-worked-out-2 : tie.Need-slice-aggregate-worked-out-2
-slice-aggregate-worked-out-2 c = search needs
+slice-aggregate-worked-out-2 c = sym (last-long (start-of (told-of (c .before .before .before .before .before .before))))
 
 worked-out-requires : tie.Need-worked-out-requires
 unfolding holdsNode
@@ -188,6 +194,7 @@ outcome-of-spec =
     (tie.spec
     slice-aggregate-node-held
     slice-aggregate-node-held-2
+    slice-aggregate-node-held-3
     node-held-requires
     enum-known-found
     enum-told

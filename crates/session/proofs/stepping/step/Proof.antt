@@ -1,30 +1,21 @@
--- `session::step` meets its contract: an answered call moves record and slice on, a refused one leaves both.
+-- `session::step` meets its contract: the trial's record is moved on, or was kept; the slice is as the trial left it.
 -- Assumes nothing.
-use mathlib.Core.Path.{_≡_, sym, _∙_, ap}
-use native.Mathlib.Omega.{arith}
+use mathlib.Core.Path.{sym, _∙_, ap}
 use denote.Ref.{now}
-use lib.ListN.{length}
-use Rattle.answers.specs.Answer.{accepted, instantAnswer}
-use Rattle.session.specs.Instants.{answerOf}
-use Rattle.session.proofs.Answering.{answered-few, moves, writes, refused-keeps}
+use Rattle.answers.specs.Answer.{instantAnswer}
+use Rattle.session.proofs.Answering.{moves, refused-keeps}
 use borrow.Author.Needs.{needs}
 use Rattle.session.proofs.stepping.step.Statement.{statement}
 use Rattle.session.proofs.stepping.step.Tie as tie
 
-outcome-of-requires : tie.Need-outcome-of-requires
-outcome-of-requires c κs = search needs
+tried-requires : tie.Need-tried-requires
+tried-requires c κs = search needs
 
 enum-told : tie.Need-enum-told
 enum-told c = search needs
 
-is-answered : (c : tie.After-enum-told) → let a = c .before .before .before .args in answerOf (a .s) (now (a .inputs)) (length (now (a .out))) ≡ accepted tt
-is-answered c = sym (c .before .before .outcome-of .ensures .0) ∙ ap instantAnswer (c .enum-told .given .1)
-
-fill-requires : tie.Need-fill-requires
-fill-requires c κs = let few = answered-few _ _ _ (is-answered (c .before .before)) in (omega arith, omega (arith, few))
-
-moved-to-requires : tie.Need-moved-to-requires
-moved-to-requires c κs = search needs
+moved-on-requires : tie.Need-moved-on-requires
+moved-on-requires c κs = search needs
 
 enum-known-answer : tie.Need-enum-known-answer
 enum-known-answer c = search needs
@@ -34,29 +25,30 @@ same-length c = search needs
 
 returns : tie.Need-returns
 returns c =
-    let fill = c .before .before in
-    let told = fill .before .before .before in
-    let e = is-answered told in
-    let are = told .before .before .outcome-of .ensures .1 (ap instantAnswer (told .enum-told .given .1)) in
-    let a = told .before .before .before .args in
-    let out = now (a .out) in
-    (sym e, c .moved-to .ensures ∙ moves (a .s) (now (a .inputs)) out _ e are, fill .fill .ensures ∙ writes (a .s) (now (a .inputs)) out _ e are)
+    let told = c .before in
+    let tried = told .before .before .before .tried in
+    let e = sym (tried .ensures .0) ∙ ap instantAnswer (told .enum-told .given .1) in
+    (sym e, c .moved-on .ensures ∙ moves _ _ _ _ e (tried .ensures .1), tried .ensures .2)
+
+same-length-2 : tie.Need-same-length-2
+same-length-2 c = search needs
 
 returns-2 : tie.Need-returns-2
 returns-2 c =
-    let e = sym (c .before .before .before .outcome-of .ensures .0) ∙ ap instantAnswer (c .before .answer .given .1) in
-    let kept = refused-keeps _ _ _ e in
-    (sym e, sym (kept .0), sym (kept .1))
+    let after = c .before .before .before .before in
+    let a = after .before .before .args in
+    let e = sym (after .tried .ensures .0) ∙ ap instantAnswer (c .before .answer .given .1) in
+    (sym e, sym (refused-keeps (a .s) (now (a .inputs)) (now (a .out)) e .1), after .tried .ensures .2)
 
 pub step-spec : {M : Type 1} → statement M
 step-spec =
     tie.close
     (tie.spec
-    outcome-of-requires
+    tried-requires
     enum-told
-    fill-requires
-    moved-to-requires
+    moved-on-requires
     enum-known-answer
     same-length
     returns
+    same-length-2
     returns-2)
