@@ -1,6 +1,7 @@
 /* Fuzz target of the check of ranges. Input, where what is missing counts as zeros: u8 count of numbers (128 and over: two a stream);
  * u16 length of a node file and its bytes; the numbers, 8 bytes each; then what inputs are drawn from, 8 bytes each. Where the node
- * is listed, instants are run on it with inputs inside their ranges. */
+ * is listed, instants are run on it with inputs inside their ranges, every other one by trial and commit, after a trial with ints that
+ * are drawn from all numbers. */
 #include "target.h"
 
 static const int64_t LIMIT = 4000000000;
@@ -43,23 +44,45 @@ static int64_t drawn(source *from, const listing *l, size_t i)
     return any & 1 ? greatest - off : least + off;
 }
 
-/* Instants of a listed node: none is refused, and each int value is in its range. */
+/* An input of its type, inside its range or not. */
+static int64_t any_input(source *from, const listing *l, size_t i)
+{
+    int64_t any;
+    take(from, &any, sizeof any);
+    return is_bool(l, i) ? any & 1 : any;
+}
+
+/* A trial, an instant's call where `at_once`, with inputs drawn in this way. */
+static size_t number_of(const listing *l, conuhawe_session *s, int64_t *values, source *from, int at_once,
+                        int64_t (*draw)(source *, const listing *, size_t))
+{
+    int64_t numbers[64];
+    size_t count = 0;
+    for (size_t i = 0; i < l->streams; i++)
+        if (l->records[16 * i] == 0)
+            numbers[count++] = draw(from, l, i);
+    int64_t *inputs = block(numbers, count * sizeof *inputs);
+    conuhawe_answer a = (at_once ? conuhawe_instant : conuhawe_trial)(s, inputs, count, values, l->streams);
+    free(inputs);
+    return a.number;
+}
+
+/* Instants of a listed node: none is refused, and each int value is in its range. A trial of any ints is 34 at most. */
 static void pass(const listing *l, source *from)
 {
     conuhawe_session *s = calloc(1, sizeof *s);
     int64_t *values = calloc(l->streams, sizeof *values);
     CHECK(s && values && conuhawe_begin(s, l->file, l->length).number == 0);
     for (int t = 0; t < INSTANTS; t++) {
-        int64_t numbers[64];
-        size_t count = 0;
-        for (size_t i = 0; i < l->streams; i++)
-            if (l->records[16 * i] == 0)
-                numbers[count++] = drawn(from, l, i);
-        int64_t *inputs = block(numbers, count * sizeof *inputs);
-        CHECK(conuhawe_instant(s, inputs, count, values, l->streams).number == 0);
+        int at_once = t % 2 == 0;
+        if (!at_once) {
+            size_t number = number_of(l, s, values, from, 0, any_input);
+            CHECK(number == 0 || number == 34);
+        }
+        CHECK(number_of(l, s, values, from, at_once, drawn) == 0);
         for (size_t i = 0; i < l->streams; i++)
             CHECK(is_bool(l, i) || (l->table[2 * i] <= values[i] && values[i] <= l->table[2 * i + 1]));
-        free(inputs);
+        CHECK(at_once || conuhawe_commit(s).number == 0);
     }
     free(s);
     free(values);

@@ -1,6 +1,7 @@
 #!/usr/bin/env python3
 """Writes the seeds of all targets: seeds.py FOLDER. From the examples, crates/check_pairs, nodes in another order and with loops,
-certificates of every depth and of other versions, sessions at the ends of 64 bits, and a held level with its ranges."""
+certificates of every depth and of other versions, sessions at the ends of 64 bits, records with trials, and a held level with its
+ranges."""
 import itertools
 import pathlib
 import struct
@@ -15,6 +16,11 @@ DATA = ROOT / "crates" / "check_pairs" / "data"
 VERSION = 2
 RECORD_FILE = 1040
 NATURAL = 128
+INSTANT, TRIAL, COMMIT, BEGIN = range(4)
+# events of a session, eight a seed
+AT_ONCE = [INSTANT] * 4 + [TRIAL, INSTANT, COMMIT, INSTANT]
+TRIED = [TRIAL, TRIAL, COMMIT, COMMIT, TRIAL, COMMIT, TRIAL, INSTANT]
+BEGUN_AGAIN = [COMMIT, TRIAL, INSTANT, TRIAL, BEGIN, COMMIT, TRIAL, COMMIT]
 ENDS = [-2**63, -2**62, -1, 0, 1, 2**62, 2**63 - 1]
 LIMIT = 4_000_000_000
 # 4 is a level that changes by 1, an input, and is held between 2 and 3; 8 to 11 have the other operators of ints
@@ -117,16 +123,19 @@ def check_seed(node, cert):
     return struct.pack("<H", len(node)) + node + cert
 
 
-def record(node, started, last):
-    """A session record that holds the node, its note taken off."""
+def record(node, started, last, held=0, trial=0):
+    """A session record that holds the node, its note taken off; what is not read is 9."""
     used = b""
     if len(node) >= 16:
         used = node[-min(len(node), 16 + 16 * struct.unpack_from("<H", node, len(node) - 12)[0], RECORD_FILE):]
-    return struct.pack("<Q64q", len(used), *[last] * 64) + used.ljust(RECORD_FILE, b"\0") + bytes([started] + [0] * 7)
+    values = struct.pack("<Q128q", len(used), *[last] * 64, *[trial] * 64)
+    return values + used.ljust(RECORD_FILE, b"\0") + bytes([started, held] + [9] * 6)
 
 
-def session_seed(node, started, last, inputs, room=NATURAL, count=NATURAL):
-    return bytes([room, count]) + record(node, started, last) + check_seed(node, struct.pack(f"<{len(inputs)}q", *inputs))
+def session_seed(node, kept, inputs, calls=AT_ONCE, room=NATURAL, count=NATURAL):
+    """Calls on a record with these kept parts."""
+    events = b"".join(bytes([call, room, count]) for call in calls)
+    return events + record(node, *kept) + check_seed(node, struct.pack(f"<{len(inputs)}q", *inputs))
 
 
 def at_the_ends():
@@ -135,7 +144,7 @@ def at_the_ends():
     for name, record in [("sum", rec(6, INT, 0, 1)), ("difference", rec(7, INT, 0, 1)), ("multiple", rec(8, INT, 0, k=-2))]:
         node = node_file([rec(0, INT), rec(0, INT), record, rec(9, BOOL, 0, 1)], 3)
         for i in range(0, len(inputs), 8):
-            yield f"{name}-{i}", session_seed(node, 0, 0, inputs[i:i + 8])
+            yield f"{name}-{i}", session_seed(node, (0, 0), inputs[i:i + 8])
 
 
 def ranges_seed(node, table, draws=(), numbers=NATURAL):
@@ -164,13 +173,16 @@ def main():
         (out / "fuzz_check" / name).write_bytes(check_seed(node, cert))
         nodes.setdefault(node, name)
     for node, name in nodes.items():
-        for i, (started, last, inputs) in enumerate([
-            (0, 0, [1, 0] * 32),
-            (1, 1, [0, 1, 1] * 21),
-            (1, 0, ENDS * 9),
-            (1, 2, []),
+        for i, (kept, inputs, calls) in enumerate([
+            ((0, 0), [1, 0] * 32, AT_ONCE),
+            ((7, 1, 7, 1), [0, 1, 1] * 21, TRIED),
+            ((1, 0), ENDS * 9, TRIED),
+            ((1, 2), [], AT_ONCE),
+            ((0, 2, 7, 1), [1, 1, 0] * 21, BEGUN_AGAIN),
+            ((0, 0, 1, 2), [1, 0] * 32, BEGUN_AGAIN),
+            ((1, 1, 0, 2), [1, 0] * 32, TRIED),
         ]):
-            (out / "fuzz_session" / f"{name}-{i}").write_bytes(session_seed(node, started, last, inputs))
+            (out / "fuzz_session" / f"{name}-{i}").write_bytes(session_seed(node, kept, inputs, calls))
         (out / "fuzz_ranges" / name).write_bytes(ranges_seed(node, []))
     for name, seed in at_the_ends():
         (out / "fuzz_session" / name).write_bytes(seed)

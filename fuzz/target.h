@@ -61,7 +61,7 @@ static inline int place_fits(size_t number, size_t place)
 {
     if (number == 0)
         return place == CONUHAWE_NO_PLACE;
-    if (number <= 4 || (number >= 11 && number <= 14) || (number >= 30 && number <= 32) || number == 71)
+    if (number <= 4 || (number >= 11 && number <= 14) || (number >= 30 && number <= 32) || number == 35 || number == 71)
         return place == CONUHAWE_FILE;
     if (number <= 8 || number == 23 || number == 33 || number == 34 || number == 72)
         return place == CONUHAWE_RECORD;

@@ -26,7 +26,7 @@ extern "C" {
 /* Where a refusal is met: an answer's place. An answer that is not a refusal has place CONUHAWE_NO_PLACE. */
 enum {
     CONUHAWE_NO_PLACE = 0,
-    CONUHAWE_FILE = 1,       /* the file; also input count, slice length, a record that holds no node and a table of ranges */
+    CONUHAWE_FILE = 1,       /* the file; also input count, slice length, a record that holds no node or no trial, a table of ranges */
     CONUHAWE_RECORD = 2,     /* record `index` of the node file, or the stream of that number */
     CONUHAWE_CONSTRAINT = 3, /* constraint `index` of the certificate */
     CONUHAWE_LINE = 4,       /* line `index`, counted through base and then on through step */
@@ -63,12 +63,13 @@ enum {
     CONUHAWE_NO_EMPTY_LINE = 21,
     CONUHAWE_CUT_LINE = 22,
 
-    /* instant's call; places: file for 30 to 32, record for 33 and 34 */
-    CONUHAWE_NO_NODE = 30,
+    /* instant's call and trial: 30 to 34; commit: 30 and 35; places: file for 30 to 32 and 35, record for 33 and 34 */
+    CONUHAWE_NO_NODE = 30, /* no node; or a bool of the last committed instant, past instant 0, or of a held trial is not 0 or 1 */
     CONUHAWE_INPUT_COUNT = 31,
     CONUHAWE_SLICE_LENGTH = 32,
     CONUHAWE_BOOL_INPUT = 33,
     CONUHAWE_OUTSIDE_RANGE = 34, /* at the first such stream in the worked-out order */
+    CONUHAWE_NO_TRIAL = 35,      /* no trial is held; after 30 */
 
     /* table of ranges; places: file for 71, record for 72 */
     CONUHAWE_RANGES_TABLE = 71,    /* table length, ends reversed or too large, a bool's ends not 0 */
@@ -80,18 +81,23 @@ typedef struct conuhawe_answer {
     size_t number;   /* 0 where accepted, else the rule's number */
     size_t place;    /* CONUHAWE_FILE .. CONUHAWE_STEP, 0 where accepted */
     size_t index;    /* which record, constraint or line; of other places 0 */
-    size_t value[3]; /* node: streams, property, 0; certificate: depth, base lines, step lines; instant and ranges: 0, 0, 0 */
+    size_t value[3]; /* node: streams, property, 0; certificate: depth, base lines, step lines; every other call: 0, 0, 0 */
 } conuhawe_answer;
 
 /* A session record: it is the caller's, and a call changes it only where it is accepted. A record of any bytes is taken (one that
- * holds no node is refused by conuhawe_instant with 30), so a program may copy it, store it and lend it again; a zeroed one is a
- * good start. The fields are for the library. There is no padding. */
+ * holds no node is refused with 30 by every call but conuhawe_begin), so a program may copy it, store it and lend it again; a zeroed
+ * one is a good start. The fields are for the library. There is no padding.
+ *
+ * Records that were stored by a library without conuhawe_trial do not load: the record has grown from 1,568 to 2,080 bytes, and what
+ * follows `last` stands elsewhere. */
 typedef struct conuhawe_session {
     size_t length;      /* bytes of the node file that are used */
-    int64_t last[64];   /* the values of the last answered instant */
+    int64_t last[64];   /* the values of the last committed instant */
+    int64_t trial[64];  /* the values of the held trial; not read where none is held, and 0 then after an accepted call */
     uint8_t file[1040]; /* the node file without its note */
     uint8_t started;    /* 0 before instant 0; any other byte counts as past it */
-    uint8_t spare[7];   /* not read; 0 after an accepted call */
+    uint8_t held;       /* 0 where no trial is held; any other byte counts as one held */
+    uint8_t spare[6];   /* not read; 0 after an accepted call */
 } conuhawe_session;
 
 /* Checks a node file by rules 1 to 8 and 23. Accepted: value[0] is the stream count and value[1] the property stream.
@@ -110,14 +116,32 @@ conuhawe_answer conuhawe_read(const uint8_t *node, size_t node_length);
 conuhawe_answer conuhawe_check(const uint8_t *node, size_t node_length, const uint8_t *certificate, size_t certificate_length);
 
 /* Begins a session on a node file, checked as by conuhawe_read and answered the same. Accepted: the record is set to the node, before
- * instant 0. Refused: every byte of the record is as it was. */
+ * instant 0, and holds no trial. Refused: every byte of the record, so a held trial too, is as it was.
+ *
+ * From then on the record is moved by the session's calls, conuhawe_trial, conuhawe_commit and conuhawe_instant, in any mix and with
+ * refused ones between them. An instant is committed by an accepted conuhawe_commit, with the inputs of the trial that was held, or by
+ * an accepted conuhawe_instant, with its own. The values along the committed instants are those of the node's equations on the
+ * committed inputs, and a trial's are those on the committed inputs and its own. Where conuhawe_check has accepted a certificate for
+ * the node, the property's value is 1 in all of them. */
 conuhawe_answer conuhawe_begin(conuhawe_session *session, const uint8_t *node, size_t node_length);
 
-/* Runs the next instant. `inputs` has one number for each input, in record order (bool: 0 or 1); `values` has room for one number a
- * stream. Accepted: values[i] is the value of stream i, and the record is moved on. Refused: every byte of the record, and every
- * value, is as it was. */
+/* Runs the next instant: a trial and its commit. `inputs` has one number for each input, in record order (bool: 0 or 1); `values` has
+ * room for one number a stream. Accepted: values[i] is the value of stream i, the record is moved on, and it holds no trial; an earlier
+ * one is dropped. Refused: every byte of the record, so a held trial too, and every value, is as it was. */
 conuhawe_answer conuhawe_instant(conuhawe_session *session, const int64_t *inputs, size_t input_count, int64_t *values,
                                  size_t value_count);
+
+/* Shows the next instant without advancing: answer and values are those that conuhawe_instant would give. Accepted: values[i] is the
+ * value of stream i, and the record keeps the values as its held trial, in place of an earlier one; of the rest only `spare` is
+ * written. They are worked out from the last committed instant, never from an earlier trial. Refused: every byte of the record, so an
+ * earlier trial too, and every value, is as it was. */
+conuhawe_answer conuhawe_trial(conuhawe_session *session, const int64_t *inputs, size_t input_count, int64_t *values,
+                               size_t value_count);
+
+/* Advances to the held trial: 30, or else 35 where there is none, and no other refusal. Accepted: the trial's values are now those of
+ * the last committed instant, and no trial is held. So trials and the commit of the last one leave, byte for byte, the record that
+ * conuhawe_instant leaves on that one's inputs. Refused: every byte of the record is as it was. */
+conuhawe_answer conuhawe_commit(conuhawe_session *session);
 
 /* Checks a table of ranges for a node file: rules 1 to 8 and 23 for the node, then 71 and 72. `table` has two numbers a stream, the
  * least and the greatest of stream 0, then of stream 1, and on.
@@ -126,8 +150,9 @@ conuhawe_answer conuhawe_instant(conuhawe_session *session, const int64_t *input
  * 72: an int stream that is no input has results outside its range. Its operator's least and greatest are meant, each operand by
  * itself anywhere in its range; for operators 11, 12 and 13 the ranges of both a and b lie inside. The index is the lowest such record.
  *
- * Accepted: the node is listed. In a session on it whose int inputs, those of the answered calls and the call's own, have all been
- * inside their ranges, no instant is refused with 34 and the value of each int stream is in its range. */
+ * Accepted: the node is listed. In a session on it whose int inputs, those of the committed instants and the call's own, have all been
+ * inside their ranges, no instant and no trial is refused with 34 and the value of each int stream is in its range. Inputs of a trial
+ * that is not committed do not count. */
 conuhawe_answer conuhawe_ranges(const uint8_t *node, size_t node_length, const int64_t *table, size_t numbers);
 
 /* How many leading bytes of a node file are its note; 0 where one of rules 1 to 8 and 23 refuses the file. Never more than its length. */

@@ -7,8 +7,13 @@
 #include <string.h>
 
 static_assert(sizeof(conuhawe_answer) == 48, "an answer is six numbers");
-static_assert(sizeof(conuhawe_session) == 1568, "a record has no padding");
-static_assert(offsetof(conuhawe_session, spare) == 1561, "a record has no padding");
+static_assert(sizeof(conuhawe_session) == 2080, "a record has no padding");
+static_assert(offsetof(conuhawe_session, last) == 8, "the length comes first");
+static_assert(offsetof(conuhawe_session, trial) == 520, "64 values of the last instant before it");
+static_assert(offsetof(conuhawe_session, file) == 1032, "64 values of the trial before it");
+static_assert(offsetof(conuhawe_session, started) == 2072, "1,040 bytes of the file before it");
+static_assert(offsetof(conuhawe_session, held) == 2073, "a byte before it");
+static_assert(offsetof(conuhawe_session, spare) == 2074, "a byte before it");
 
 typedef struct {
     uint8_t bytes[65536];
@@ -117,7 +122,7 @@ static void check_versions(file node, file cert)
     free(c);
 }
 
-/* A call that is refused leaves the record and the values. */
+/* A call that is refused, an instant's and a trial, leaves the record and the values. */
 static void refuses(const char *what, conuhawe_session *s, const int64_t *inputs, size_t count, size_t room, size_t number,
                     size_t place, size_t index)
 {
@@ -125,7 +130,16 @@ static void refuses(const char *what, conuhawe_session *s, const int64_t *inputs
     int64_t values[6] = {-1, -2, -3, -4, -5, -6}, same[6];
     memcpy(same, values, sizeof same);
     expect(what, conuhawe_instant(s, inputs, count, values, room), number, place, index, 0, 0, 0);
+    expect(what, conuhawe_trial(s, inputs, count, values, room), number, place, index, 0, 0, 0);
     expect_true(what, memcmp(&before, s, sizeof before) == 0 && memcmp(values, same, sizeof same) == 0);
+}
+
+/* A commit that is refused leaves the record. */
+static void refuses_commit(const char *what, conuhawe_session *s, size_t number)
+{
+    conuhawe_session before = *s;
+    expect(what, conuhawe_commit(s), number, CONUHAWE_FILE, 0, 0, 0, 0);
+    expect_true(what, memcmp(&before, s, sizeof before) == 0);
 }
 
 static void check_session(file node)
@@ -137,6 +151,7 @@ static void check_session(file node)
         exit(1);
     memset(s, 0xab, sizeof *s);
     refuses("no node", s, inputs[0], 2, 6, CONUHAWE_NO_NODE, CONUHAWE_FILE, 0);
+    refuses_commit("commit, no node", s, CONUHAWE_NO_NODE);
 
     conuhawe_session before = *s;
     expect("begin on nothing", conuhawe_begin(s, node.bytes, 0), CONUHAWE_NODE_LENGTH, CONUHAWE_FILE, 0, 0, 0, 0);
@@ -155,7 +170,7 @@ static void check_session(file node)
     refuses("slice length", s, inputs[0], 2, 5, CONUHAWE_SLICE_LENGTH, CONUHAWE_FILE, 0);
     refuses("bool input", s, two, 2, 6, CONUHAWE_BOOL_INPUT, CONUHAWE_RECORD, 1);
     s->started = 7;
-    s->spare[6] = 9;
+    s->spare[5] = 9;
     refuses("bool input, started 7", s, two, 2, 6, CONUHAWE_BOOL_INPUT, CONUHAWE_RECORD, 1);
     s->last[3] = 2;
     refuses("a bool of the last instant is 2", s, inputs[0], 2, 6, CONUHAWE_NO_NODE, CONUHAWE_FILE, 0);
@@ -209,6 +224,7 @@ static void check_orders(file node, file cert)
     expect("a loop, not waited for", conuhawe_read(n, length), CONUHAWE_NO_ORDER, CONUHAWE_RECORD, 1, 0, 0, 0);
     s->file[16 * 3 + 2] = 1;
     refuses("a loop in the record", s, inputs[0], 2, 6, CONUHAWE_NO_NODE, CONUHAWE_FILE, 0);
+    refuses_commit("a loop, and no trial", s, CONUHAWE_NO_NODE);
     free(n);
     free(c);
     free(s);
@@ -262,6 +278,75 @@ static void check_ranges(void)
     expect("no node at all", conuhawe_ranges(n, 0, table, 14), CONUHAWE_NODE_LENGTH, CONUHAWE_FILE, 0, 0, 0, 0);
 }
 
+/* An instant's call or a trial on the held level, which is below 96. */
+static void expect_level(const char *what, conuhawe_answer (*call)(conuhawe_session *, const int64_t *, size_t, int64_t *, size_t),
+                         conuhawe_session *s, int64_t input, int64_t before)
+{
+    const int64_t wanted[7] = {1, input, 0, 100, before, before + input, before + input};
+    int64_t values[7];
+    memset(values, 0xab, sizeof values);
+    expect(what, call(s, &input, 1, values, 7), 0, 0, 0, 0, 0, 0);
+    expect_true(what, memcmp(values, wanted, sizeof values) == 0);
+}
+
+/* Trials and a commit beside an instant's call: the same bytes, also with an earlier trial. */
+static void check_trials(void)
+{
+    static const int64_t two[2] = {5, 5};
+    conuhawe_session *s = malloc(sizeof *s), *at_once = malloc(sizeof *s);
+    if (!s || !at_once)
+        exit(1);
+    memset(s, 0xab, sizeof *s);
+    memset(at_once, 0xcd, sizeof *s);
+    expect("begin tried", conuhawe_begin(s, &held[0][0], sizeof held), 0, 0, 0, 7, 0, 0);
+    expect("begin at once", conuhawe_begin(at_once, &held[0][0], sizeof held), 0, 0, 0, 7, 0, 0);
+    refuses_commit("commit at first", s, CONUHAWE_NO_TRIAL);
+    for (int64_t t = 0; t < 10; t++) {
+        expect_level("trial", conuhawe_trial, s, 4, 5 * t);
+        expect_level("another trial", conuhawe_trial, s, 5, 5 * t);
+        expect_true("a trial is held", s->held == 1 && s->started == (t > 0));
+        refuses("too many inputs", s, two, 2, 6, CONUHAWE_INPUT_COUNT, CONUHAWE_FILE, 0);
+        expect("commit", conuhawe_commit(s), 0, 0, 0, 0, 0, 0);
+        expect_level("at once", conuhawe_instant, at_once, 5, 5 * t);
+        expect_true("the same bytes", memcmp(s, at_once, sizeof *s) == 0);
+        refuses_commit("commit again", s, CONUHAWE_NO_TRIAL);
+    }
+    free(s);
+    free(at_once);
+}
+
+/* What becomes of a trial that is not committed, and of one whose bool is spoiled. */
+static void check_held_trials(file node)
+{
+    static const int64_t inputs[2] = {1, 1};
+    conuhawe_session *s = calloc(1, sizeof *s), *none = calloc(1, sizeof *s);
+    int64_t values[6];
+    if (!s || !none)
+        exit(1);
+    expect("begin", conuhawe_begin(none, node.bytes, node.length), 0, 0, 0, 6, 5, 0);
+    *s = *none;
+    expect("trial", conuhawe_trial(s, inputs, 2, values, 6), 0, 0, 0, 0, 0, 0);
+    conuhawe_session tried = *s;
+    expect("begin on nothing", conuhawe_begin(s, node.bytes, 0), CONUHAWE_NODE_LENGTH, CONUHAWE_FILE, 0, 0, 0, 0);
+    expect_true("a refused beginning keeps a trial", memcmp(s, &tried, sizeof *s) == 0);
+    expect("begin again", conuhawe_begin(s, node.bytes, node.length), 0, 0, 0, 6, 5, 0);
+    expect_true("a beginning holds no trial", memcmp(s, none, sizeof *s) == 0);
+
+    *s = tried;
+    s->held = 200;
+    s->trial[5] = 2;
+    refuses("a bool of the trial is 2", s, inputs, 2, 6, CONUHAWE_NO_NODE, CONUHAWE_FILE, 0);
+    refuses_commit("commit a bool that is 2", s, CONUHAWE_NO_NODE);
+    s->held = 0;
+    refuses_commit("no trial, whatever its slot", s, CONUHAWE_NO_TRIAL);
+    expect("instant", conuhawe_instant(s, inputs, 2, values, 6), 0, 0, 0, 0, 0, 0);
+    tried.held = 200;
+    expect("commit, held by any byte", conuhawe_commit(&tried), 0, 0, 0, 0, 0, 0);
+    expect_true("the same bytes", memcmp(s, &tried, sizeof *s) == 0);
+    free(s);
+    free(none);
+}
+
 /* The level climbs to 100 and stays. */
 static void check_held(void)
 {
@@ -293,6 +378,8 @@ int main(int argc, char **argv)
     check_orders(node, cert);
     check_ranges();
     check_held();
+    check_trials();
+    check_held_trials(node);
     printf("%s\n", failures ? "failed" : "ok");
     return failures != 0;
 }

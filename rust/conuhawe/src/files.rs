@@ -48,9 +48,10 @@ pub fn check(node: &[u8], certificate: &[u8]) -> Result<Accepted, Refusal> {
 /// and the greatest of stream 0, then of stream 1, and on; both 0 for a bool.
 ///
 /// Where it is accepted, the node is listed. In a [`Session`](crate::Session)
-/// on it whose int inputs, those of the answered calls and the call's own, have
-/// all been inside their ranges, no instant is refused with 34 and the value of
-/// each int stream is in its range.
+/// on it whose int inputs, those of the committed instants and the call's own,
+/// have all been inside their ranges, no instant and no trial is refused with
+/// 34 and the value of each int stream is in its range. Inputs of a trial that
+/// is not committed do not count.
 ///
 /// # Errors
 ///

@@ -17,6 +17,9 @@
 //! let mut values = [0; 6];
 //! session.instant(&[1, 1], &mut values)?;
 //! assert_eq!(values, [1, 1, 0, 0, 0, 1]);
+//! session.trial(&[0, 1], &mut values)?;
+//! assert_eq!(values, [0, 1, 1, 1, 0, 1]);
+//! session.commit()?;
 //! # Ok(())
 //! # }
 //! ```

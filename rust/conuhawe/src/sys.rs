@@ -16,9 +16,11 @@ pub(crate) struct Answer {
 pub(crate) struct Record {
     pub(crate) length: usize,
     pub(crate) last: [i64; 64],
+    pub(crate) trial: [i64; 64],
     pub(crate) file: [u8; 1040],
     pub(crate) started: u8,
-    pub(crate) spare: [u8; 7],
+    pub(crate) held: u8,
+    pub(crate) spare: [u8; 6],
 }
 
 extern "C" {
@@ -37,6 +39,14 @@ extern "C" {
         values: *mut i64,
         value_count: usize,
     ) -> Answer;
+    pub(crate) fn conuhawe_trial(
+        record: *mut Record,
+        inputs: *const i64,
+        input_count: usize,
+        values: *mut i64,
+        value_count: usize,
+    ) -> Answer;
+    pub(crate) fn conuhawe_commit(record: *mut Record) -> Answer;
     pub(crate) fn conuhawe_ranges(
         node: *const u8,
         length: usize,

@@ -3,14 +3,15 @@
 
 mod common;
 
-use common::two_bands;
+use common::{two_bands, FILE, HELD, LAST, STARTED};
 use conuhawe::Session;
 use reference::build::random::{self, damage, Random};
 use reference::build::renumber::Renumbering;
 use reference::build::{multiples, orders, search, NodeFile, BOOL, INT};
+use reference::certificate;
 use reference::node::{self, Type};
-use reference::{certificate, session};
-use std::collections::BTreeSet;
+use reference::session::{self, Record};
+use std::collections::{BTreeMap, BTreeSet};
 use std::fmt::Display;
 
 type Pair = (Vec<u8>, Vec<u8>);
@@ -115,35 +116,114 @@ fn inputs(random: &mut Random, node: &node::Node) -> Vec<i64> {
     drawn
 }
 
+/// An answer of a session's call: nothing where it is answered.
+fn told<A, R: Display>(answer: Result<A, R>) -> String {
+    answer.map_or_else(|refusal| refusal.to_string(), |_| String::new())
+}
+
+/// The record as the library lends it.
+fn bytes(record: &Record) -> [u8; Session::SIZE] {
+    let mut bytes = [0; Session::SIZE];
+    bytes[..LAST].copy_from_slice(&record.length.to_le_bytes());
+    let numbers = record.last.iter().chain(&record.trial);
+    for (place, number) in bytes[LAST..FILE].chunks_exact_mut(8).zip(numbers) {
+        place.copy_from_slice(&number.to_le_bytes());
+    }
+    bytes[FILE..STARTED].copy_from_slice(&record.bytes);
+    bytes[STARTED] = record.answered.into();
+    bytes[HELD] = record.held.into();
+    bytes
+}
+
+/// What a session's event is.
+#[derive(Clone, Copy, Debug, PartialEq, Eq, PartialOrd, Ord)]
+enum Event {
+    Begin,
+    Instant,
+    Trial,
+    Commit,
+}
+
+/// Both sessions, beside each other.
+struct Both {
+    ours: Session,
+    theirs: Record,
+    file: Vec<u8>,
+}
+
+impl Both {
+    fn begun(file: Vec<u8>) -> Self {
+        let mut theirs = Record::new();
+        session::begin(&mut theirs, &file).unwrap();
+        let ours = Session::begin(&file).unwrap();
+        Both { ours, theirs, file }
+    }
+
+    /// One event; gives the answer of both.
+    fn event(&mut self, random: &mut Random, event: Event) -> String {
+        let node = node::read(&self.file).unwrap();
+        let given = inputs(random, &node);
+        let room = node.count() + usize::from(random.below(40) == 0);
+        let (mut values, mut expected) = (vec![-7; room], vec![-7; room]);
+        let (ours, theirs) = (&mut self.ours, &mut self.theirs);
+        let answers = match event {
+            Event::Begin => {
+                let mut file = self.file.clone();
+                if random.below(2) == 0 {
+                    damage(random, &mut file);
+                }
+                let begun = told(ours.begin_again(&file));
+                [begun, told(session::begin(theirs, &file))]
+            }
+            Event::Instant => [
+                told(ours.instant(&given, &mut values)),
+                told(session::instant(theirs, &given, &mut expected)),
+            ],
+            Event::Trial => [
+                told(ours.trial(&given, &mut values)),
+                told(session::trial(theirs, &given, &mut expected)),
+            ],
+            Event::Commit => [told(ours.commit()), told(session::commit(theirs))],
+        };
+        let [answer, other] = answers;
+        assert_eq!(answer, other, "{event:?}");
+        assert_eq!(values, expected, "{event:?}");
+        assert_eq!(ours.to_bytes(), bytes(theirs), "{event:?}");
+        answer
+    }
+}
+
+/// Lists of events: answers, slices and whole records.
 #[test]
 fn sessions() {
     let mut random = Random::new(73);
-    let mut met = BTreeSet::new();
+    let mut met: BTreeMap<(Event, String), usize> = BTreeMap::new();
     for i in 0..4_000 {
         let mut node = random::node(&mut random, 3 + i % 62);
         if i % 2 == 1 {
             node = another_order(&mut random, &node).node(&node);
         }
-        let file = node.bytes();
-        let node = node::read(&file).unwrap();
-        let mut theirs = session::Record::new();
-        session::begin(&mut theirs, &file).unwrap();
-        let mut ours = Session::begin(&file).unwrap();
-        for _ in 0..12 {
-            let inputs = inputs(&mut random, &node);
-            let room = node.count() + usize::from(random.below(40) == 0);
-            let (mut expected, mut values) = (vec![-7; room], vec![-7; room]);
-            let answer = session::instant(&mut theirs, &inputs, &mut expected);
-            let answer = answer.map_or_else(|refusal| refusal.to_string(), |()| String::new());
-            met.extend(answer.split(' ').nth(1).map(str::to_owned));
-            let own = ours.instant(&inputs, &mut values);
-            assert_eq!(
-                own.map_or_else(|refusal| refusal.to_string(), |()| String::new()),
-                answer
-            );
-            assert_eq!(values, expected);
-            assert_eq!(ours.started(), theirs.answered);
+        let mut both = Both::begun(node.bytes());
+        for _ in 0..20 {
+            let event = match random.below(20) {
+                0 => Event::Begin,
+                1..=6 => Event::Instant,
+                7..=14 => Event::Trial,
+                _ => Event::Commit,
+            };
+            let answer = both.event(&mut random, event);
+            let number = answer.split(' ').nth(1).unwrap_or("answered");
+            *met.entry((event, number.to_owned())).or_default() += 1;
         }
     }
-    assert_eq!(Vec::from_iter(met), ["31", "32", "33", "34"]);
+    let often = |event| {
+        let own = met.iter().filter(|((of, _), _)| *of == event);
+        let often = own.filter(|(_, count)| **count >= 100);
+        Vec::from_iter(often.map(|((_, number), _)| number.as_str()))
+    };
+    assert_eq!(often(Event::Begin), ["2", "4", "5", "7", "answered"]);
+    for event in [Event::Instant, Event::Trial] {
+        assert_eq!(often(event), ["31", "32", "33", "34", "answered"]);
+    }
+    assert_eq!(often(Event::Commit), ["35", "answered"]);
 }

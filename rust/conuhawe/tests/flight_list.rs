@@ -1,6 +1,6 @@
 //! Passes of a million instants on listed nodes, that of `examples/flight-list`
 //! and one whose levels rise and fall: inputs anywhere in their ranges, and no
-//! instant is refused.
+//! instant is refused, whatever was only tried.
 
 mod common;
 
@@ -114,6 +114,27 @@ fn are_inside(node: &Node, ends: &[[i64; 2]], values: &[i64]) -> bool {
     (0..node.count()).all(|i| node.types()[i] == Type::Bool || is_inside(i))
 }
 
+/// A trial far outside the ranges, on either side by turns, which is not
+/// committed. Gives whether it is answered, and so held.
+fn try_outside(session: &mut Session, node: &Node, far: i64) -> bool {
+    let streams = node.inputs().iter().copied().map(usize::from);
+    let given = streams.enumerate().map(|(nth, i)| match node.types()[i] {
+        Type::Bool => 1,
+        Type::Int => [far, -far][nth % 2],
+    });
+    let given: Vec<i64> = given.collect();
+    session.trial(&given, &mut vec![0; node.count()]).is_ok()
+}
+
+/// An instant's call, or a trial and its commit.
+fn instant(session: &mut Session, given: &[i64], values: &mut [i64], tried: bool) {
+    let answer = match tried {
+        true => session.trial(given, values).and_then(|()| session.commit()),
+        false => session.instant(given, values),
+    };
+    assert_eq!(answer, Ok(()), "{given:?}");
+}
+
 /// Runs a pass on a listed node: every instant is answered, and every int
 /// value is in its range. Gives the counters.
 fn pass(file: &[u8], table: &[i64]) -> Vec<Counter> {
@@ -124,15 +145,20 @@ fn pass(file: &[u8], table: &[i64]) -> Vec<Counter> {
     let mut random = Random::new(81);
     let mut session = Session::begin(file).unwrap();
     let mut values = vec![0; node.count()];
+    let mut held = 0;
     for t in 0..INSTANTS {
+        if t % 16 == 0 {
+            let far = [i64::MAX, 5_000_000_000][random.below(2)];
+            held += usize::from(try_outside(&mut session, &node, far));
+        }
         let given: Vec<i64> = inputs.iter_mut().map(|i| i.drawn(&mut random)).collect();
-        let answer = session.instant(&given, &mut values);
-        assert_eq!(answer, Ok(()), "instant {t}: {given:?}");
+        instant(&mut session, &given, &mut values, t % 3 == 0);
         assert!(are_inside(&node, ends, &values), "instant {t}: {values:?}");
         counters
             .iter_mut()
             .for_each(|counter| counter.meet(&values));
     }
+    assert!(held >= INSTANTS / 40, "{held}");
     counters
 }
 

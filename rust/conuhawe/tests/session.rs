@@ -2,7 +2,7 @@
 
 mod common;
 
-use common::{two_bands, with_note};
+use common::{two_bands, with_note, FILE, LAST, SPARE, STARTED, TRIAL};
 use conuhawe::{Place, Refusal, Session};
 use reference::build::random::Random;
 
@@ -75,9 +75,6 @@ fn bytes_bring_a_session_back() {
     assert_eq!(Session::from_bytes(session.to_bytes()), session);
 }
 
-/// The offset of `started`, which any byte but 0 makes past instant 0.
-const STARTED: usize = 1560;
-
 #[test]
 fn any_started_byte_is_taken() {
     let mut session = two_bands_session();
@@ -85,7 +82,7 @@ fn any_started_byte_is_taken() {
     for started in 1..=255 {
         let mut bytes = session.to_bytes();
         bytes[STARTED] = started;
-        bytes[STARTED + 1..].fill(0x5a);
+        bytes[SPARE..].fill(0x5a);
         let mut other = Session::from_bytes(bytes);
         refuses(&mut other, &[2, 0], 6, 33, Place::Record(0));
         let mut values = [0; 6];
@@ -114,8 +111,9 @@ fn damaged_records_are_answered_or_left() {
     for _ in 0..20_000 {
         let mut bytes = bytes;
         for _ in 0..1 + random.below(3) {
-            // Length, first last values, the node file, and what follows it.
-            let (start, size) = [(0, 8), (8, 56), (520, 112), (STARTED, 8)][random.below(4)];
+            // Length, first values, the node file, and what follows it.
+            let parts = [(0, 8), (LAST, 56), (TRIAL, 56), (FILE, 112), (STARTED, 8)];
+            let (start, size) = parts[random.below(parts.len())];
             bytes[start + random.below(size)] = random.byte();
         }
         let mut session = Session::from_bytes(bytes);

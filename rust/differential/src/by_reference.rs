@@ -47,4 +47,17 @@ impl Checker for Reference {
     ) -> Result<(), Refusal> {
         session::instant(record, inputs, values)
     }
+
+    fn trial(
+        &self,
+        record: &mut Record,
+        inputs: &[i64],
+        values: &mut [i64],
+    ) -> Result<(), Refusal> {
+        session::trial(record, inputs, values)
+    }
+
+    fn commit(&self, record: &mut Record) -> Result<(), Refusal> {
+        session::commit(record)
+    }
 }

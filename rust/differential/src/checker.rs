@@ -16,7 +16,8 @@ pub struct Shape {
 /// ranges.
 ///
 /// The session record is lent as 1,040 bytes of node file, a length, whether
-/// an instant was answered, and 64 last values; see [`record_bytes`].
+/// an instant was committed, 64 last values, whether a trial is held, and its 64
+/// values; see [`record_bytes`].
 pub trait Checker {
     /// Its name, for messages.
     fn name(&self) -> String;
@@ -46,13 +47,23 @@ pub trait Checker {
         inputs: &[i64],
         values: &mut [i64],
     ) -> Result<(), Refusal>;
+
+    /// A trial.
+    fn trial(&self, record: &mut Record, inputs: &[i64], values: &mut [i64])
+        -> Result<(), Refusal>;
+
+    /// A commit.
+    fn commit(&self, record: &mut Record) -> Result<(), Refusal>;
 }
 
-/// The record as 1040 + 8 + 1 + 512 bytes: file, length, answered, last.
+/// The record as 1040 + 8 + 1 + 512 + 1 + 512 bytes: file, length, answered,
+/// last, held, trial.
 pub fn record_bytes(record: &Record) -> Vec<u8> {
     let mut bytes = record.bytes.to_vec();
     bytes.extend((record.length as u64).to_le_bytes());
     bytes.push(u8::from(record.answered));
     bytes.extend(record.last.iter().flat_map(|value| value.to_le_bytes()));
+    bytes.push(u8::from(record.held));
+    bytes.extend(record.trial.iter().flat_map(|value| value.to_le_bytes()));
     bytes
 }

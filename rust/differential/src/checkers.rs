@@ -13,3 +13,15 @@ pub const CHECKERS: &[&dyn Checker] = &[
     #[cfg(feature = "proved")]
     &Twin(crate::proved::Proved),
 ];
+
+/// All that are compared on sessions: one more, for records of other bytes.
+pub const ON_SESSIONS: &[&dyn Checker] = &[
+    &Reference,
+    &Twin(Reference),
+    #[cfg(feature = "proved")]
+    &crate::proved::Proved,
+    #[cfg(feature = "proved")]
+    &Twin(crate::proved::Proved),
+    #[cfg(feature = "proved")]
+    &crate::proved::marked::Marked,
+];

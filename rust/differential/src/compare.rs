@@ -193,6 +193,21 @@ pub fn begin(
     )
 }
 
+/// Compares all on a call that takes inputs and fills a slice.
+fn filling(
+    checkers: &[&dyn Checker],
+    origin: Origin,
+    record: (&str, &mut Record),
+    (inputs, values): (&[i64], &mut [i64]),
+    run: impl Fn(&dyn Checker, &mut Record, &mut [i64]) -> Result<(), Refusal>,
+) -> Result<(), Refusal> {
+    let (name, record) = record;
+    let before = record_bytes(record);
+    let given = number_bytes(inputs);
+    let bytes = [(name, &before[..]), ("inputs", &given[..])];
+    call(checkers, origin, (record, values), &bytes, run)
+}
+
 /// Compares all on an instant's call.
 pub fn instant(
     checkers: &[&dyn Checker],
@@ -201,15 +216,46 @@ pub fn instant(
     inputs: &[i64],
     values: &mut [i64],
 ) -> Result<(), Refusal> {
+    filling(
+        checkers,
+        origin,
+        ("record before an instant", record),
+        (inputs, values),
+        |checker, record, values| checker.instant(record, inputs, values),
+    )
+}
+
+/// Compares all on a trial.
+pub fn trial(
+    checkers: &[&dyn Checker],
+    origin: Origin,
+    record: &mut Record,
+    inputs: &[i64],
+    values: &mut [i64],
+) -> Result<(), Refusal> {
+    filling(
+        checkers,
+        origin,
+        ("record before a trial", record),
+        (inputs, values),
+        |checker, record, values| checker.trial(record, inputs, values),
+    )
+}
+
+/// Compares all on a commit.
+pub fn commit(
+    checkers: &[&dyn Checker],
+    origin: Origin,
+    record: &mut Record,
+) -> Result<(), Refusal> {
     let before = record_bytes(record);
-    let given = number_bytes(inputs);
-    let bytes = [("record", &before[..]), ("inputs", &given[..])];
+    let bytes = [("record before a commit", &before[..])];
     call(
         checkers,
         origin,
-        (record, values),
+        (record, &mut []),
         &bytes,
-        |checker, record, values| checker.instant(record, inputs, values),
+        |checker, record, _| checker.commit(record),
     )
 }
 

@@ -19,6 +19,11 @@ impl Row<'_> {
         self.0[1] == 0
     }
 
+    /// Whether the stream's type has this value.
+    fn fits(&self, value: i64) -> bool {
+        !self.is_bool() || value == 0 || value == 1
+    }
+
     /// Operand a, b or c.
     fn operand(&self, which: usize) -> usize {
         let at = 2 + 2 * which;
@@ -58,8 +63,19 @@ pub fn begin(by: &dyn Checker, record: &mut Record, file: &[u8]) -> Result<(), R
     Ok(())
 }
 
-/// An instant's call.
+/// An instant's call, to the letter of 02: "a trial and its commit".
 pub fn instant(
+    by: &dyn Checker,
+    record: &mut Record,
+    inputs: &[i64],
+    values: &mut [i64],
+) -> Result<(), Refusal> {
+    trial(by, record, inputs, values)?;
+    commit(by, record)
+}
+
+/// A trial.
+pub fn trial(
     by: &dyn Checker,
     record: &mut Record,
     inputs: &[i64],
@@ -67,9 +83,42 @@ pub fn instant(
 ) -> Result<(), Refusal> {
     let now = worked_out(by, record, inputs, values.len())?;
     values.copy_from_slice(&now);
-    record.last[..now.len()].copy_from_slice(&now);
-    record.answered = true;
+    let numbers = now.into_iter().chain(std::iter::repeat(0));
+    record
+        .trial
+        .iter_mut()
+        .zip(numbers)
+        .for_each(|(to, now)| *to = now);
+    record.held = true;
     Ok(())
+}
+
+/// A commit: 30, then 35.
+pub fn commit(by: &dyn Checker, record: &mut Record) -> Result<(), Refusal> {
+    held(by, record)?;
+    if !record.held {
+        return Err(Refusal::file(35));
+    }
+    record.last = std::mem::replace(&mut record.trial, [0; 64]);
+    record.answered = true;
+    record.held = false;
+    Ok(())
+}
+
+/// The rows of the node in the record, or 30.
+fn held<'a>(by: &dyn Checker, record: &'a Record) -> Result<Vec<Row<'a>>, Refusal> {
+    let no_node = Refusal::file(30);
+    let file = record.bytes.get(..record.length).ok_or(no_node)?;
+    let rows = rows(file, by.read(file).map_err(|_| no_node)?);
+    for (is_kept, values) in [
+        (record.answered, &record.last),
+        (record.held, &record.trial),
+    ] {
+        if is_kept && !rows.iter().zip(values).all(|(row, value)| row.fits(*value)) {
+            return Err(no_node);
+        }
+    }
+    Ok(rows)
 }
 
 /// 30 to 34 in order, then the values.
@@ -79,13 +128,7 @@ fn worked_out(
     inputs: &[i64],
     room: usize,
 ) -> Result<Vec<i64>, Refusal> {
-    let no_node = Refusal::file(30);
-    let file = record.bytes.get(..record.length).ok_or(no_node)?;
-    let rows = rows(file, by.read(file).map_err(|_| no_node)?);
-    let is_typed = |i: usize, value: i64| !rows[i].is_bool() || value == 0 || value == 1;
-    if record.answered && !(0..rows.len()).all(|i| is_typed(i, record.last[i])) {
-        return Err(no_node);
-    }
+    let rows = held(by, record)?;
     let given: Vec<usize> = (0..rows.len())
         .filter(|i| rows[*i].operator() == 0)
         .collect();
@@ -96,7 +139,7 @@ fn worked_out(
         return Err(Refusal::file(32));
     }
     let pairs = given.into_iter().zip(inputs.iter().copied());
-    if let Some((i, _)) = pairs.clone().find(|(i, input)| !is_typed(*i, *input)) {
+    if let Some((i, _)) = pairs.clone().find(|(i, input)| !rows[*i].fits(*input)) {
         return Err(Refusal::new(33, Place::Record(i)));
     }
     let mut known = vec![None; rows.len()];

@@ -11,15 +11,16 @@
 //!   [`reorder`] puts records into another order, or makes them lead back to
 //!   themselves; [`damage`], [`miscuts`], [`misfactors`] and [`miswindows`]
 //!   spoil; [`cases`] mixes them. [`listed`] generates nodes with tables of
-//!   [`ranges`], [`misranges`] spoils the tables. [`largest`], [`narrow`] and
-//!   [`alike`] generate what is measured.
+//!   [`ranges`], [`misranges`] spoils the tables. [`misrecords`] spoils session
+//!   records. [`largest`], [`narrow`] and [`alike`] generate what is measured.
 //! * [`compare`] compares, and prints seed and bytes where two differ;
-//!   [`tally`] counts what was met, [`rests`] tells what a step rests on.
+//!   [`tally`] and [`events`] count what was met, [`rests`] tells what a step
+//!   rests on.
 //!
 //! A longer run, with a line on the way now and then:
 //!
 //! ```text
-//! DIFFERENTIAL_PAIRS=5000000 DIFFERENTIAL_INSTANTS=5000000 DIFFERENTIAL_SEED=2 \
+//! DIFFERENTIAL_PAIRS=5000000 DIFFERENTIAL_EVENTS=5000000 DIFFERENTIAL_SEED=2 \
 //!     cargo test --offline --test differential -- --nocapture --test-threads=1
 //! DIFFERENTIAL_TABLES=5000000 DIFFERENTIAL_SEED=2 \
 //!     cargo test --offline --test ranges -- --nocapture --test-threads=1
@@ -43,6 +44,7 @@ pub mod damage;
 pub mod delays;
 pub mod draft;
 pub mod evaluator;
+pub mod events;
 pub mod factors;
 pub mod forge;
 pub mod grow;
@@ -52,6 +54,7 @@ pub mod listed;
 pub mod miscuts;
 pub mod misfactors;
 pub mod misranges;
+pub mod misrecords;
 pub mod miswindows;
 pub mod narrow;
 pub mod nodes;

@@ -1,13 +1,15 @@
-//! Passes: a beginning and a list of instant's calls, right and wrong, with
-//! values near the limits of 64 bits.
+//! Passes: lists of a session's events, right and wrong, with values near the
+//! limits of 64 bits. Beginnings, also on other nodes and on files that are
+//! refused, trials, commits and instant's calls stand in any mix.
 
-use crate::checker::{Checker, Record};
+use crate::checker::{Checker, Record, Refusal};
 use crate::compare::{self, Origin};
 use crate::damage::{damage, Layout};
+use crate::events::{Event, Events};
+use crate::misrecords;
 use crate::nodes::{self, Taste};
 use crate::random::Random;
 use crate::reorder::{is_reordered, looped};
-use crate::tally::Tally;
 use reference::build::{NodeFile, BOOL};
 
 /// How int inputs are drawn in a pass.
@@ -23,6 +25,7 @@ enum Style {
 pub struct Run {
     /// The node.
     pub node: NodeFile,
+    reordered: bool,
     style: Style,
 }
 
@@ -37,6 +40,7 @@ impl Run {
         let mut node = nodes::node(random, taste);
         node.note = nodes::note(random, 1_040);
         Run {
+            reordered: is_reordered(&node.records),
             node,
             style: random.of([Style::Small, Style::Spread, Style::Spread, Style::Edges]),
         }
@@ -74,7 +78,7 @@ impl Run {
     }
 
     /// Inputs and a slice, once in eight one of them wrong.
-    fn call(&self, random: &mut Random) -> (Vec<i64>, Vec<i64>) {
+    pub fn call(&self, random: &mut Random) -> (Vec<i64>, Vec<i64>) {
         let mut inputs = self.inputs(random);
         let n = self.node.records.len();
         let mut room = n;
@@ -93,78 +97,123 @@ impl Run {
     }
 }
 
-/// Runs a pass of `calls` instants, each compared.
+/// A pass: what is compared, and the node that is run.
+struct Pass<'a> {
+    checkers: &'a [&'a dyn Checker],
+    origin: Origin,
+    run: Run,
+}
+
+/// Runs a pass of a beginning and `calls` events more, each compared.
 pub fn pass(
     checkers: &[&dyn Checker],
     origin: Origin,
     random: &mut Random,
     calls: usize,
-    tally: &mut Tally,
+    events: &mut Events,
 ) {
     let run = Run::drawn(random);
-    let reordered = is_reordered(&run.node.records);
+    let mut pass = Pass {
+        checkers,
+        origin,
+        run,
+    };
     let mut record = Record::new();
-    begun(checkers, origin, random, &run, &mut record, tally);
+    pass.begin_right(&mut record, events);
     for _ in 0..calls {
-        let (inputs, mut values) = run.call(random);
-        let answer = if random.once_in(16) {
-            let mut lent = spoiled(random, &record);
-            compare::instant(checkers, origin, &mut lent, &inputs, &mut values)
-        } else {
-            compare::instant(checkers, origin, &mut record, &inputs, &mut values)
+        match random.below(32) {
+            0 | 1 => pass.begin(random, &mut record, events),
+            2 | 3 => pass.on_spoiled(random, &record, events),
+            drawn => {
+                let event = match drawn {
+                    4..=16 => Event::Trial,
+                    17..=23 => Event::Commit,
+                    _ => Event::Instant,
+                };
+                let _ = pass.call(random, &mut record, event, events);
+            }
+        }
+    }
+}
+
+impl Pass<'_> {
+    /// A beginning on the node, on another one, or on a file that is damaged or
+    /// has a loop. A refused one leaves the session to go on.
+    fn begin(&mut self, random: &mut Random, record: &mut Record, events: &mut Events) {
+        let file = self.run.node.bytes();
+        let (wrong, number) = match random.below(4) {
+            0 => return self.begin_right(record, events),
+            1 => {
+                self.run = Run::drawn(random);
+                return self.begin_right(record, events);
+            }
+            2 => {
+                let mut wrong = file.clone();
+                damage(random, Layout::of_node(&file), &mut wrong);
+                (wrong, None)
+            }
+            _ => match looped(random, &self.run.node) {
+                Some(wrong) => (wrong.node.bytes(), Some(23)),
+                None => return,
+            },
         };
-        tally.instant(answer, reordered);
-        if random.once_in(64) {
-            begun(checkers, origin, random, &run, &mut record, tally);
+        let answer = self.begun(record, &wrong, events);
+        let refused = answer.err().map(|refusal| refusal.number);
+        assert!(number.is_none() || refused == number, "{:?}", self.origin);
+        if answer.is_ok() {
+            self.begin_right(record, events);
         }
     }
-}
 
-/// A beginning on the run's file, after one on a damaged file at times, or on
-/// one with a loop.
-fn begun(
-    checkers: &[&dyn Checker],
-    origin: Origin,
-    random: &mut Random,
-    run: &Run,
-    record: &mut Record,
-    tally: &mut Tally,
-) {
-    let file = run.node.bytes();
-    if random.once_in(4) {
-        let mut wrong = file.clone();
-        damage(random, Layout::of_node(&file), &mut wrong);
-        let _ = compare::begin(checkers, origin, record, &wrong);
+    /// A beginning on the node.
+    fn begin_right(&self, record: &mut Record, events: &mut Events) {
+        let (file, origin) = (self.run.node.bytes(), self.origin);
+        let answer = self.begun(record, &file, events);
+        assert_eq!(answer, Ok(()), "{origin:?}: a right node is refused");
     }
-    let wrong = random.once_in(4).then(|| looped(random, &run.node));
-    if let Some(wrong) = wrong.flatten() {
-        let answer = compare::begin(checkers, origin, record, &wrong.node.bytes());
-        tally.beginning(answer.expect_err("a loop is no node"));
-    }
-    let answer = compare::begin(checkers, origin, record, &file);
-    assert_eq!(answer, Ok(()), "{origin:?}: a right node is refused");
-}
 
-/// The record as no call leaves it. What it holds past its n values is left
-/// 0, as every beginning leaves it: an answered call may keep it or not.
-fn spoiled(random: &mut Random, record: &Record) -> Record {
-    let mut record = record.clone();
-    let n = record.length / 16 - 1;
-    match random.below(7) {
-        0 => record.length = random.of([0, 15, 16, 1_040, 1_041, usize::MAX]),
-        1 => record.length = random.below(1_100),
-        2 => {
-            let (layout, length) = (Layout::Node(n), record.length);
-            let mut file = record.bytes[..length].to_vec();
-            crate::damage::set_field(random, layout, &mut file);
-            record.bytes[..length].copy_from_slice(&file);
+    /// A beginning on some file.
+    fn begun(&self, record: &mut Record, file: &[u8], events: &mut Events) -> Result<(), Refusal> {
+        let held = record.held;
+        let answer = compare::begin(self.checkers, self.origin, record, file);
+        events.count(Event::Begin, held, answer);
+        answer
+    }
+
+    /// An instant's call, a trial or a commit.
+    fn call(
+        &self,
+        random: &mut Random,
+        record: &mut Record,
+        event: Event,
+        events: &mut Events,
+    ) -> Result<(), Refusal> {
+        let (held, (inputs, mut values)) = (record.held, self.run.call(random));
+        let (checkers, origin) = (self.checkers, self.origin);
+        let answer = match event {
+            Event::Instant => compare::instant(checkers, origin, record, &inputs, &mut values),
+            Event::Trial => compare::trial(checkers, origin, record, &inputs, &mut values),
+            _ => compare::commit(checkers, origin, record),
+        };
+        let filled = event != Event::Commit && answer.is_ok();
+        events.reordered += u64::from(filled && self.run.reordered);
+        events.count(event, held, answer);
+        answer
+    }
+
+    /// A call on a spoiled copy of the record, and at times some more on what
+    /// it leaves.
+    fn on_spoiled(&self, random: &mut Random, record: &Record, events: &mut Events) {
+        let way = random.of(misrecords::WAYS);
+        let mut lent = way.spoiled(random, &self.run.node, record);
+        let event = random.of(Event::CALLS);
+        let answer = self.call(random, &mut lent, event, events);
+        let (name, origin) = (way.name, self.origin);
+        assert!(way.expected.is(answer), "{origin:?}: {name}: {answer:?}");
+        events.way(name, answer);
+        for _ in 0..random.below(3) {
+            let event = random.of(Event::CALLS);
+            let _ = self.call(random, &mut lent, event, events);
         }
-        3 => record.answered = !record.answered,
-        4 => record.last[random.below(n)] = random.of([2, -1, i64::MIN, 1 << 32]),
-        5 => record.last[..n]
-            .iter_mut()
-            .for_each(|last| *last = random.of([0, 1])),
-        _ => record.bytes[random.below(1_040)] ^= 1 << random.below(8),
     }
-    record
 }

@@ -1,14 +1,19 @@
-//! The proved library as a checker: the one file that links it.
+//! The proved library as a checker: the one module that links it.
 //!
-//! Only [`lent`] and [`taken_back`] know its session record: length, last
-//! values, file, whether an instant was answered, and seven spare bytes.
+//! Only [`lent`], [`taken_back`] and [`marked`] know its session record: length,
+//! last values, the held trial's, file, whether an instant was committed,
+//! whether a trial is held, and six spare bytes.
+
+pub mod marked;
 
 use crate::checker::{Accepted, Checker, Place, Record, Refusal, Shape, Verdict};
 use conuhawe::Session;
 
 const LAST: usize = 8;
-const FILE: usize = LAST + 8 * 64;
+const TRIAL: usize = LAST + 8 * 64;
+const FILE: usize = TRIAL + 8 * 64;
 const STARTED: usize = FILE + 1040;
+const HELD: usize = STARTED + 1;
 
 /// The proved calls.
 #[derive(Clone, Copy, Debug, Default)]
@@ -36,34 +41,56 @@ fn small<T: TryFrom<usize>>(number: usize) -> T {
         .expect("the contracts know no such number")
 }
 
+/// Writes numbers, 8 bytes each.
+fn write(bytes: &mut [u8], values: &[i64; 64]) {
+    for (place, value) in bytes.chunks_exact_mut(8).zip(values) {
+        place.copy_from_slice(&value.to_le_bytes());
+    }
+}
+
+/// The eight bytes at an offset.
+fn word(bytes: &[u8], at: usize) -> [u8; 8] {
+    let mut word = [0; 8];
+    word.copy_from_slice(&bytes[at..at + 8]);
+    word
+}
+
 /// The record as the library lends it.
 fn lent(record: &Record) -> Session {
     let mut bytes = [0; Session::SIZE];
     bytes[..LAST].copy_from_slice(&record.length.to_le_bytes());
-    for (place, value) in bytes[LAST..FILE].chunks_exact_mut(8).zip(record.last) {
-        place.copy_from_slice(&value.to_le_bytes());
-    }
+    write(&mut bytes[LAST..TRIAL], &record.last);
+    write(&mut bytes[TRIAL..FILE], &record.trial);
     bytes[FILE..STARTED].copy_from_slice(&record.bytes);
     bytes[STARTED] = u8::from(record.answered);
+    bytes[HELD] = u8::from(record.held);
     Session::from_bytes(bytes)
 }
 
 /// The record that the library left.
 fn taken_back(session: &Session) -> Record {
     let bytes = session.to_bytes();
-    let word = |at: usize| {
-        let mut word = [0; 8];
-        word.copy_from_slice(&bytes[at..at + 8]);
-        word
-    };
     let mut file = [0; 1040];
     file.copy_from_slice(&bytes[FILE..STARTED]);
     Record {
-        length: usize::from_le_bytes(word(0)),
+        length: usize::from_le_bytes(word(&bytes, 0)),
         bytes: file,
         answered: bytes[STARTED] != 0,
-        last: std::array::from_fn(|i| i64::from_le_bytes(word(LAST + 8 * i))),
+        last: std::array::from_fn(|i| i64::from_le_bytes(word(&bytes, LAST + 8 * i))),
+        held: bytes[HELD] != 0,
+        trial: std::array::from_fn(|i| i64::from_le_bytes(word(&bytes, TRIAL + 8 * i))),
     }
+}
+
+/// A call on the record as the library lends it.
+fn on(
+    record: &mut Record,
+    call: impl FnOnce(&mut Session) -> Result<(), conuhawe::Refusal>,
+) -> Result<(), Refusal> {
+    let mut session = lent(record);
+    let answer = call(&mut session).map_err(refusal);
+    *record = taken_back(&session);
+    answer
 }
 
 impl Checker for Proved {
@@ -101,10 +128,7 @@ impl Checker for Proved {
     }
 
     fn begin(&self, record: &mut Record, node: &[u8]) -> Result<(), Refusal> {
-        let mut session = lent(record);
-        let answer = session.begin_again(node).map_err(refusal).map(|_| ());
-        *record = taken_back(&session);
-        answer
+        on(record, |session| session.begin_again(node).map(|_| ()))
     }
 
     fn instant(
@@ -113,9 +137,19 @@ impl Checker for Proved {
         inputs: &[i64],
         values: &mut [i64],
     ) -> Result<(), Refusal> {
-        let mut session = lent(record);
-        let answer = session.instant(inputs, values).map_err(refusal);
-        *record = taken_back(&session);
-        answer
+        on(record, |session| session.instant(inputs, values))
+    }
+
+    fn trial(
+        &self,
+        record: &mut Record,
+        inputs: &[i64],
+        values: &mut [i64],
+    ) -> Result<(), Refusal> {
+        on(record, |session| session.trial(inputs, values))
+    }
+
+    fn commit(&self, record: &mut Record) -> Result<(), Refusal> {
+        on(record, Session::commit)
     }
 }

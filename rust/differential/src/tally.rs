@@ -14,7 +14,7 @@ use std::fmt;
 /// of line was met.
 #[derive(Clone, Debug, Default)]
 pub struct Tally {
-    /// Refusals by number, those of beginnings too; answered calls as 0.
+    /// Refusals by number; what is accepted as 0.
     pub numbers: BTreeMap<u8, u64>,
     /// Accepted certificates by depth.
     pub depths: BTreeMap<u8, u64>,
@@ -31,8 +31,8 @@ pub struct Tally {
     /// Accepted certificates with an equation line whose constraint is
     /// multiplied through, by a factor of at least 2.
     pub multiplied: u64,
-    /// Accepted certificates, and answered calls, where an operand needed now
-    /// is not lower than its record.
+    /// Accepted certificates where an operand needed now is not lower than its
+    /// record.
     pub reordered: u64,
     /// The most lines of an accepted certificate.
     pub longest: u64,
@@ -98,18 +98,6 @@ impl Tally {
         }
     }
 
-    /// Counts the answer to an instant's call on a node that is reordered or
-    /// not.
-    pub fn instant(&mut self, answer: Result<(), Refusal>, reordered: bool) {
-        self.reordered += u64::from(answer.is_ok() && reordered);
-        self.answer(answer);
-    }
-
-    /// Counts a refused beginning, which is not one of all calls.
-    pub fn beginning(&mut self, refusal: Refusal) {
-        *self.numbers.entry(refusal.number).or_default() += 1;
-    }
-
     /// Counts an answer.
     pub fn answer(&mut self, answer: Result<(), Refusal>) {
         let number = answer.map_or_else(|refusal| refusal.number, |()| 0);
@@ -117,7 +105,7 @@ impl Tally {
         self.total += 1;
     }
 
-    /// How often a number was met, 0 being accepted or answered.
+    /// How often a number was met, 0 being accepted.
     pub fn of(&self, number: u8) -> u64 {
         self.numbers.get(&number).copied().unwrap_or(0)
     }

@@ -86,6 +86,19 @@ impl<C: Checker> Checker for Twin<C> {
     ) -> Result<(), Refusal> {
         evaluator::instant(&self.0, record, inputs, values)
     }
+
+    fn trial(
+        &self,
+        record: &mut Record,
+        inputs: &[i64],
+        values: &mut [i64],
+    ) -> Result<(), Refusal> {
+        evaluator::trial(&self.0, record, inputs, values)
+    }
+
+    fn commit(&self, record: &mut Record) -> Result<(), Refusal> {
+        evaluator::commit(&self.0, record)
+    }
 }
 
 /// A certificate's distance field, if the file has one and is not too long.

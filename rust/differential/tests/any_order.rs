@@ -125,8 +125,13 @@ fn refused(origin: Origin, node: &NodeFile, lowest: u16) {
     let answer = compare::begin(CHECKERS, origin, &mut session, &file);
     assert_eq!(answer, Err(refusal), "{origin:?}");
     let mut session = holding(&file);
+    let no_node = Err(Refusal::file(30));
     let answer = compare::instant(CHECKERS, origin, &mut session, &[], &mut [0; 64]);
-    assert_eq!(answer, Err(Refusal::file(30)), "{origin:?}");
+    assert_eq!(answer, no_node, "{origin:?}");
+    let answer = compare::trial(CHECKERS, origin, &mut session, &[], &mut [0; 64]);
+    assert_eq!(answer, no_node, "{origin:?}");
+    let answer = compare::commit(CHECKERS, origin, &mut session);
+    assert_eq!(answer, no_node, "{origin:?}");
 }
 
 /// The operands needed now: of each operator how many.

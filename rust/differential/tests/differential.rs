@@ -1,20 +1,21 @@
 //! Two checkers say the same of generated pairs and passes.
 //!
-//! `DIFFERENTIAL_PAIRS`, `DIFFERENTIAL_INSTANTS` and `DIFFERENTIAL_SEED` make
+//! `DIFFERENTIAL_PAIRS`, `DIFFERENTIAL_EVENTS` and `DIFFERENTIAL_SEED` make
 //! a longer or another run; with `--nocapture` the counts are shown.
 
 use differential::by_reference::Reference;
 use differential::cases::{self, Expected};
 use differential::checker::{Checker, Record};
-use differential::checkers::CHECKERS;
+use differential::checkers::{CHECKERS, ON_SESSIONS};
 use differential::compare::{self, Origin};
 use differential::damage::{lines, Layout};
 use differential::draft::{Draft, MAX_BLOCKS};
+use differential::events::{Event, Events};
 use differential::pool::{pool, Certified};
 use differential::random::Random;
 use differential::reorder::renumbering;
 use differential::tally::Tally;
-use differential::{forge, largest, miscuts, misfactors, passes, rests};
+use differential::{forge, largest, miscuts, misfactors, misrecords, passes, rests};
 use reference::build::proof::{two_bands_certificate, two_bands_node};
 use reference::build::renumber::Renumbering;
 use reference::build::{multiples, CertificateFile};
@@ -44,7 +45,7 @@ fn progress(what: &str, since: Instant, done: u64, all: u64, step: &mut u64) {
 }
 
 /// Demand 3: where a certificate is accepted the property is 1 at every
-/// answered instant.
+/// answered instant, and in every trial.
 fn holds(origin: Origin, random: &mut Random, node: &[u8]) {
     let read = reference::node::read(node).expect("an accepted node");
     let mut record = Record::new();
@@ -54,9 +55,16 @@ fn holds(origin: Origin, random: &mut Random, node: &[u8]) {
     let mut values = vec![0; read.count()];
     for _ in 0..10 {
         let inputs: Vec<i64> = read.inputs().iter().map(|_| random.of([0, 1])).collect();
-        if Reference.instant(&mut record, &inputs, &mut values).is_ok() {
+        let answer = match random.below(4) {
+            0 => Reference.instant(&mut record, &inputs, &mut values),
+            _ => Reference.trial(&mut record, &inputs, &mut values),
+        };
+        if answer.is_ok() {
             let property = values[usize::from(read.property())];
             assert_eq!(property, 1, "{origin:?}: accepted, and fails");
+        }
+        if random.once_in(2) {
+            let _ = Reference.commit(&mut record);
         }
     }
 }
@@ -138,34 +146,54 @@ fn both_windows(tally: &Tally, all: u64) {
     }
 }
 
+/// Lists of events: beginnings, trials, commits and instant's calls.
 #[test]
-fn instants() {
-    let all = wanted("DIFFERENTIAL_INSTANTS", 400_000);
+fn sessions() {
+    let all = wanted("DIFFERENTIAL_EVENTS", 600_000);
     let (since, seed) = (Instant::now(), seed());
-    let (mut tally, mut step) = (Tally::default(), 500_000);
+    let (mut events, mut step) = (Events::default(), 500_000);
     for case in 0.. {
         let origin = Origin { seed, case };
         let mut random = Random::of_case(!seed, case);
         let calls = random.within(1, 40);
-        passes::pass(CHECKERS, origin, &mut random, calls, &mut tally);
-        progress("instants", since, tally.total, all, &mut step);
-        if tally.total >= all {
+        passes::pass(ON_SESSIONS, origin, &mut random, calls, &mut events);
+        progress("events", since, events.calls, all, &mut step);
+        if events.calls >= all {
             break;
         }
     }
     println!(
-        "instants, seed {seed}, {:.1} s: {tally}",
+        "events, seed {seed}, {:.1} s: {events}",
         since.elapsed().as_secs_f64()
     );
-    for number in 30..=33 {
-        assert!(tally.of(number) >= all / 200, "{number}: {tally}");
+    every_event(&events, all);
+    for way in misrecords::WAYS {
+        assert!(events.of_way(way.name) >= all / 400, "{}", way.name);
     }
-    assert!(tally.of(23) >= all / 200, "{tally}");
-    assert!(
-        tally.of(34) >= all / 20 && tally.of(0) >= all / 4,
-        "{tally}"
-    );
-    assert!(tally.reordered >= all / 10, "{tally}");
+    assert!(events.reordered >= all / 10, "{events}");
+}
+
+/// Each event was met with each of its numbers often enough, with a trial held
+/// before it and without, and with no other number.
+fn every_event(events: &Events, all: u64) {
+    for held in [false, true] {
+        let met = |event, numbers: &[u8]| events.of(event, held, numbers);
+        for event in [Event::Instant, Event::Trial] {
+            assert_eq!(events.numbers(event, held), [0, 30, 31, 32, 33, 34]);
+            let refused = (30..=34).map(|number| met(event, &[number]));
+            assert!(refused.min() >= Some(all / 400), "{event:?}: {events}");
+            assert!(met(event, &[0]) >= all / 20, "{event:?}: {events}");
+        }
+        let after_30 = if held { 0 } else { 35 };
+        let mut numbers = [30, after_30];
+        numbers.sort_unstable();
+        assert_eq!(events.numbers(Event::Commit, held), numbers);
+        assert!(met(Event::Commit, &[after_30]) >= all / 20, "{events}");
+        assert!(met(Event::Commit, &[30]) >= all / 400, "{events}");
+        for numbers in [&[0][..], &[1, 2, 3, 4, 5, 6, 7, 8], &[23]] {
+            assert!(met(Event::Begin, numbers) >= all / 400, "{events}");
+        }
+    }
 }
 
 /// Every field of a small pair, the notes in front of it as well as not, at

@@ -177,12 +177,15 @@ struct Runs {
     answered: u64,
     /// Nodes on which operator 13 came to both ends of its range.
     both_ends: u64,
-    /// Calls with an input outside its range that were refused with 34.
+    /// Trials with all ints far outside that were answered, and so held.
+    held: u64,
+    /// Those that were refused with 34.
     too_much: u64,
 }
 
-/// Inputs inside their ranges: every call is answered, every int value is in
-/// its range. Then one input far outside: it may be too much.
+/// Inputs inside their ranges: every instant's call is answered, every trial
+/// with its commit too, and every int value is in its range. What is far
+/// outside may be too much; where it is only tried it does not count.
 #[test]
 fn inside_their_ranges() {
     let mut runs = Runs::default();
@@ -196,8 +199,13 @@ fn inside_their_ranges() {
         let mut values = vec![0; listed.ends.len()];
         let mut reached = vec![[false; 2]; listed.ends.len()];
         for _ in 0..INSTANTS {
+            if random.once_in(4) {
+                let inputs = far_outside(&mut random, &listed);
+                let said = compare::trial(CHECKERS, origin, &mut session, &inputs, &mut values);
+                runs.outside(said);
+            }
             let inputs = listed.inputs(&mut random);
-            let said = compare::instant(CHECKERS, origin, &mut session, &inputs, &mut values);
+            let said = committed(origin, &mut random, &mut session, &inputs, &mut values);
             assert_eq!(said, Ok(()), "{origin:?}: {inputs:?} {listed:?}");
             inside(origin, &listed, &values);
             runs.answered += 1;
@@ -206,20 +214,46 @@ fn inside_their_ranges() {
                 reached[own] = [0, 1].map(|end| reached[own][end] || met[end]);
             }
         }
-        let mut streams = listed.node.records.iter().zip(&reached).zip(&listed.ends);
-        runs.both_ends += u64::from(streams.any(|((record, reached), ends)| {
-            (record.operator, record.type_byte) == (13, INT)
-                && *reached == [true; 2]
-                && ends[0] < ends[1]
-        }));
-        let inputs = far_outside(&mut random, &listed);
-        let said = compare::instant(CHECKERS, origin, &mut session, &inputs, &mut values);
-        runs.too_much += u64::from(said.is_err_and(|refusal| refusal.number == 34));
+        runs.both_ends += u64::from(has_both_ends(&listed, &reached));
     }
     println!("inside their ranges: {runs:?}");
     assert_eq!(runs.answered, NODES * INSTANTS as u64);
     assert!(runs.both_ends >= NODES / 20, "{runs:?}");
     assert!(runs.too_much >= NODES / 20, "{runs:?}");
+    assert!(runs.held >= NODES / 20, "{runs:?}");
+}
+
+/// Whether operator 13 came to both ends of a range of more than one number.
+fn has_both_ends(listed: &Listed, reached: &[[bool; 2]]) -> bool {
+    let mut streams = listed.node.records.iter().zip(reached).zip(&listed.ends);
+    streams.any(|((record, reached), ends)| {
+        (record.operator, record.type_byte) == (13, INT)
+            && *reached == [true; 2]
+            && ends[0] < ends[1]
+    })
+}
+
+impl Runs {
+    /// Counts a trial far outside.
+    fn outside(&mut self, said: Result<(), Refusal>) {
+        self.held += u64::from(said.is_ok());
+        self.too_much += u64::from(said.is_err_and(|refusal| refusal.number == 34));
+    }
+}
+
+/// An instant's call, or a trial and its commit.
+fn committed(
+    origin: Origin,
+    random: &mut Random,
+    session: &mut Session,
+    inputs: &[i64],
+    values: &mut [i64],
+) -> Result<(), Refusal> {
+    if random.once_in(2) {
+        return compare::instant(CHECKERS, origin, session, inputs, values);
+    }
+    compare::trial(CHECKERS, origin, session, inputs, values)?;
+    compare::commit(CHECKERS, origin, session)
 }
 
 /// Every int value is in its range.

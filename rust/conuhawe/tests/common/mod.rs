@@ -1,9 +1,23 @@
-//! The files that the tests start from.
+//! The files that the tests start from, and where a session's bytes stand.
 
 #![allow(dead_code)]
 
 use std::fs;
 use std::path::Path;
+
+/// Where the values of the last committed instant begin among a session's
+/// bytes, after the length.
+pub const LAST: usize = 8;
+/// Where those of the held trial begin.
+pub const TRIAL: usize = LAST + 8 * 64;
+/// Where the node file begins.
+pub const FILE: usize = TRIAL + 8 * 64;
+/// Where it is said whether an instant was committed, by any byte but 0.
+pub const STARTED: usize = FILE + 1040;
+/// Where it is said whether a trial is held, by any byte but 0.
+pub const HELD: usize = STARTED + 1;
+/// Where the bytes begin that are not read.
+pub const SPARE: usize = HELD + 1;
 
 fn example(folder: &str, name: &str) -> Vec<u8> {
     let examples = Path::new(env!("CARGO_MANIFEST_DIR")).join("../../examples");

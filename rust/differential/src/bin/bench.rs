@@ -1,13 +1,12 @@
 //! Times of each checker on the same input in the same run: verdicts on large
-//! and small certificates, instants of a node of 64 streams, cuts beside
-//! arithmetic lines, equation lines with multiplied constraints beside the same
-//! lines without, instants of the same node in other orders, instants of
-//! lessers and greaters, and tables of ranges. A library from before 02's S-4
-//! accepts none of the certificates, and the run ends at the first; one from
-//! before S-12 is not linked. Nodes, inputs and lines are those that were drawn
-//! before S-4, when the base ended at k − 1: each certificate has an equation
-//! and a join more, two property lines (or last lines) less, and not-prop at k
-//! in the base's property lines.
+//! and small certificates, instants of a node of 64 streams, its trials and
+//! commits, cuts beside arithmetic lines, equation lines with multiplied
+//! constraints beside the same lines without, instants of the same node in other
+//! orders, instants of lessers and greaters, and tables of ranges. A library
+//! from before 02's S-5 has no trials and is not linked. Nodes, inputs and lines
+//! are those that were drawn before S-4, when the base ended at k − 1: each
+//! certificate has an equation and a join more, two property lines (or last
+//! lines) less, and not-prop at k in the base's property lines.
 //!
 //! `cargo run --offline --release --bin bench`; with
 //! `--no-default-features` the reference alone. The checkers take turns in
@@ -277,6 +276,42 @@ fn instants(what: &str, node: &NodeFile, inputs: &[i64]) {
     });
 }
 
+/// A call on a session's record, which is told whether it was answered.
+type Call<'a> = &'a dyn Fn(&dyn Checker, &mut Record) -> bool;
+
+/// Many of a call on one record, begun on a node.
+fn calls(what: &str, file: &[u8], call: Call) {
+    let answered = |by: &dyn Checker| {
+        let mut record = Record::new();
+        let _ = by.begin(&mut record, black_box(file));
+        (0..INSTANTS).filter(|_| call(by, &mut record)).count()
+    };
+    assert!(
+        CHECKERS.iter().all(|by| answered(*by) == INSTANTS),
+        "{what}"
+    );
+    measure(what, INSTANTS, &|checker| {
+        black_box(answered(checker));
+    });
+}
+
+/// Trials, none of them committed; commits, each of a trial that is held from
+/// the start, all of its values 0; and trials with their commits.
+fn trials(node: &NodeFile, inputs: &[i64]) {
+    let file = node.bytes();
+    let trial = |by: &dyn Checker, record: &mut Record| {
+        let mut values = [0; 64];
+        by.trial(record, black_box(inputs), &mut values).is_ok()
+    };
+    calls("200 trials of 64 streams", &file, &trial);
+    calls("200 commits of 64 streams", &file, &|by, record| {
+        record.held = true;
+        by.commit(record).is_ok()
+    });
+    let both: Call = &|by, record| trial(by, record) && by.commit(record).is_ok();
+    calls("200 trials with their commits", &file, both);
+}
+
 /// The same pass with the last record first, and with the property first, a
 /// stream that came late and needs another now. The inputs are all the same
 /// number.
@@ -353,6 +388,7 @@ fn main() {
     verdicts(&mut random);
     let (node, inputs) = lasting(&mut random);
     instants("200 instants of 64 streams", &node, &inputs);
+    trials(&node, &inputs);
     cuts(&mut random);
     factors(&mut random);
     orders(&node, &inputs);
