@@ -18,7 +18,7 @@ use Rattle.answers.specs.Answer.{Answer}
 use Rattle.report.specs.Call.{callLine}
 use Rattle.report.specs.Line.{overwritten}
 use Rattle.session.specs.declared.Session.{Session}
-use Rattle.session.specs.Events.{Event, beginning, trial, commit, oldCall, eventAnswer, afterEvent, lentAfter, afterEvents}
+use Rattle.session.specs.Events.{Event, beginning, commit, afterEvent, afterEvents}
 use Rattle.session.specs.Instants.{answerOf, sliceOf, trialOf, sessionOf}
 use Rattle.session.specs.Lists.{Call}
 use Rattle.run_passes.specs.Pass.{sizeOf, firstSize, kindOf, countAt, firstInputs, callOf, callEvent, fileOf, eventOf, eventsWithin, eventsOf, ShownOf}

@@ -32,8 +32,8 @@ use Rattle.session.specs.declared.Session.{Session}
 use Rattle.session.specs.declared.holding.HeldNode.{HeldNode}
 use Rattle.session.specs.declared.holding.HeldNode.the-variants.{Streams, NoNode}
 use Rattle.session.specs.Records.{heldFile, unstarted, untried, typedUnless, isNode, holdsNode}
-use Rattle.session.specs.Instants.{workedOut, inOrder, answerOf, sliceOf, withTrial, tried, trialOf, movedOn, commitAnswer, commitOf, sessionOf}
-use Rattle.session.specs.Working.{nodeHeld}
+use Rattle.session.specs.Instants.{workedOut, inOrder, answerOf, sliceOf, withTrial, trialOf, movedTo, movedOn, commitAnswer, commitOf, sessionOf}
+use Rattle.session.specs.Working.{nodeHeld, withParts}
 use Rattle.session.proofs.Filled.{over, over-whole, start-of-filled}
 
 -- a refusal is no answer
@@ -129,6 +129,10 @@ module _ (s : Session) (inputs slice values : List ℤ) where
   unfolding trialOf
   tries e are = rw e (ap (withTrial s) are)
 
+  pub moves : Answered → Has → movedTo s values ≡ sessionOf s inputs (length slice)
+  unfolding sessionOf
+  moves e are = rw e (ap (movedTo s) are)
+
   worked-length : length (workedOut s inputs) ≡ streamsOf (heldFile s)
   unfolding instantOf
   worked-length = instant-length (nodeOf (heldFile s)) (orderOf (heldFile s)) inputs (unstarted s) (s .last)
@@ -143,14 +147,14 @@ module _ (s : Session) (inputs slice values : List ℤ) where
   unfolding sliceOf
   writes e are = rw e (writes-all e are)
 
--- an answered trial, moved on to
-pub moves : (s : Session) (inputs : List ℤ) (room : ℕ) (after : Session) → answerOf s inputs room ≡ accepted tt → after ≡ trialOf s inputs room → movedOn after ≡ sessionOf s inputs room
-unfolding trialOf sessionOf
-moves s inputs room after e are = rw e (ap movedOn (rw e at are))
-
 pub refused-keeps : (s : Session) (inputs slice : List ℤ) {number : ℕ} {place : Place} → answerOf s inputs (length slice) ≡ refused number place → (trialOf s inputs (length slice) ≡ s) × (sessionOf s inputs (length slice) ≡ s) × (sliceOf s inputs slice ≡ slice)
 unfolding trialOf sessionOf sliceOf
 refused-keeps s inputs slice e = (rw e, rw e, rw e)
+
+-- what is said of a record by its parts is said of it
+pub by-parts : (s : Session) (inputs slice : List ℤ) → let p = withParts (s .length) (s .last) (s .trial) (s .file) (s .started) (s .held) in (answerOf p inputs (length slice) ≡ answerOf s inputs (length slice)) × (sliceOf p inputs slice ≡ sliceOf s inputs slice)
+unfolding answerOf sliceOf holdsNode
+by-parts s inputs slice = (refl, refl)
 
 -- ---- a commit's answer, from what the tests gave
 

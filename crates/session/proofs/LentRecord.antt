@@ -9,12 +9,12 @@ use denote.Enum.Laws as EL
 use Rattle.answers.specs.declared.InstantVerdict.{InstantVerdict}
 use Rattle.answers.proofs.InstantVerdict as Verdict
 use Rattle.answers.proofs.InstantVerdict.Laws as Verdict′
-use Rattle.session.specs.declared.trying.Stepped.{Stepped}
+use Rattle.session.specs.declared.making.Stepped.{Stepped}
 use Rattle.session.proofs.Kept.{Lent, Held}
 use Rattle.session.proofs.Session as Record
 use Rattle.session.proofs.Session.Laws as Record′
-use Rattle.session.proofs.trying.Stepped as Result
-use Rattle.session.proofs.trying.Stepped.Laws as Result′
+use Rattle.session.proofs.making.Stepped as Result
+use Rattle.session.proofs.making.Stepped.Laws as Result′
 
 -- the record that is lent
 abbrev pub lent : Lent

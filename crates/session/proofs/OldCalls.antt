@@ -2,19 +2,16 @@
 -- means a trial and its commit", on every record.
 -- Assumes nothing.
 use mathlib.Core.Path.{_≡_, refl, sym, _∙_, ap, subst}
-use mathlib.Core.Bool.{Bool, true, false}
 use mathlib.Core.List.{List, [], _∷_, _++_, map, append-nil, append-assoc}
 use Prim.Native.Nat.{ℕ}
-use lib.IntN.{ℤ}
 use lib.ListN.{length}
-use Rattle.answers.specs.Answer.{Answer, accepted, refused, NodeValues, ifAccepted}
+use Rattle.answers.specs.Answer.{Answer, accepted, refused, ifAccepted}
 use Rattle.node.specs.Reads.{All}
-use Rattle.node.specs.Verdict.{verdictOf}
 use Rattle.session.specs.declared.Session.{Session}
 use Rattle.session.specs.Events.{Event, trial, commit, oldCall, Run, begunRun, trying, committing, runAfter, afterEvents, lastRun, runs}
-use Rattle.session.specs.Instants.{workedOut, answerOf, sliceOf, tried, trialOf, movedOn, commitAnswer, commitOf, sessionOf}
+use Rattle.session.specs.Instants.{workedOut, answerOf, sliceOf, tried, trialOf, commitOf, sessionOf}
 use Rattle.session.specs.Lists.{Call, Answered, answerTo, after, sliceAfter, told, afterAll, answered}
-use Rattle.session.specs.Records.{holdsNode, begunOf}
+use Rattle.session.specs.Records.{begunOf}
 use Rattle.session.specs.Theorems.{Shows, Exact, RunShows, CallsExact, OneCall, TrialsThenCommit}
 use Rattle.session.proofs.Answering.{answered-holds, commit-by}
 use Rattle.session.proofs.Sessions.{sessions-exact}

@@ -1,36 +1,27 @@
 -- What stands between the calls of a session: the record holds the node, so that 30 refuses no call, and the last committed values are
 -- the solution's. So the values that a call works out are the solution's too.
 -- Assumes nothing.
-use mathlib.Core.Path.{_≡_, refl, sym, _∙_, ap, subst}
-use mathlib.Core.Bool.{Bool, true, false, _||_}
+use mathlib.Core.Path.{_≡_, _∙_, ap, subst}
+use mathlib.Core.Bool.{Bool, true, false}
 use mathlib.Core.List.{List, [], _∷_, _++_}
-use Prim.Native.Nat.{ℕ, suc, _<_, _≤_}
-use native.Mathlib.Nat.{lt-suc-self}
-use borrow.Author.Tests.{le-leb}
+use Prim.Native.Nat.{ℕ, suc, _<_}
 use lib.IntN.{ℤ}
 use lib.ListN.{length}
 use Rattle.answers.specs.Answer.{accepted, NodeValues}
-use Rattle.answers.proofs.Every.{every-of}
-use Rattle.answers.specs.Checks.{every}
-use Rattle.node.specs.Equations.{typeAt}
 use Rattle.node.specs.Layout.{streamsOf}
 use Rattle.node.specs.Note.{withoutNote}
 use Rattle.node.specs.Reads.{All, orderOf}
 use Rattle.node.specs.Verdict.{verdictOf}
 use Rattle.node.proofs.WellFormedness.{accepted-well-formed}
-use Rattle.node.proofs.WithoutNote.{without-note-accepted}
 use Rattle.streams.specs.Evaluation.{instant}
 use Rattle.streams.specs.Instant.{instantOf}
 use Rattle.streams.specs.Nodes.{Node, nodeOf, WellFormedNode, nodeOrder}
 use Rattle.streams.specs.Solutions.{Streams, isFirst, before, Solution}
-use Rattle.streams.specs.Typing.{Fits, fitsTest, Inputs, TypedInstant}
+use Rattle.streams.specs.Typing.{Inputs}
 use Rattle.streams.specs.Values.{valuesIn}
 use Rattle.streams.proofs.Agreement.{Rows, SamePast}
 use Rattle.streams.proofs.Evaluations as Evaluations
-use Rattle.streams.proofs.Keeping.{instant-keeps}
-use Rattle.streams.proofs.Numbers.{fits-test}
-use Rattle.streams.proofs.Orders.{placeOf, ranked-by-place, worked-out-order}
-use Rattle.streams.proofs.Types.{types-kept}
+use Rattle.streams.proofs.Orders.{placeOf, worked-out-order}
 use Rattle.session.specs.declared.Session.{Session}
 use Rattle.session.specs.Instants.{workedOut}
 use Rattle.session.specs.Events.{Trial, none, some, Run}

@@ -1,7 +1,7 @@
 -- On every record that holds a node, what a trial works out fits its types. So the record that a trial leaves holds the node, and that
 -- of its commit.
 -- Assumes nothing.
-use mathlib.Core.Path.{_≡_, refl, sym, _∙_, ap, subst}
+use mathlib.Core.Path.{_≡_, refl, sym, subst}
 use mathlib.Core.Bool.{Bool, true, false}
 use mathlib.Core.List.{List}
 use Prim.Native.Nat.{ℕ, suc, _<_}

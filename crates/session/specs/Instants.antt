@@ -58,10 +58,14 @@ tried s inputs = withTrial s (filled 64 (pos 0) (workedOut s inputs))
 unfoldable pub trialOf : Session → (inputs : List ℤ) → (room : ℕ) → Session
 trialOf s inputs room = ifAccepted (answerOf s inputs room) (tried s inputs) s
 
--- the record that an answered commit leaves: it "advances to the last trial and then, like beginning, holds none"
+-- the record past instant 0, with these as its last values, and no trial
+abbrev pub movedTo : Session → (values : List ℤ) → Session
+movedTo s values =
+    record { length = s .length; last = values; trial = replicate 64 (pos 0); file = s .file; started = 1; held = 0; spare = replicate 6 0 }
+
+-- an answered commit's: it "advances to the last trial and then, like beginning, holds none"
 abbrev pub movedOn : Session → Session
-movedOn s =
-    record { length = s .length; last = s .trial; trial = replicate 64 (pos 0); file = s .file; started = 1; held = 0; spare = replicate 6 0 }
+movedOn s = movedTo s (s .trial)
 
 -- "35, commit with no trial held, after 30"
 unfoldable pub commitAnswer : Session → Answer (Unit {0})

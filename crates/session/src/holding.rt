@@ -83,14 +83,15 @@ fn node_in(file: &[u8], first: bool, last: &[i64], free: bool, trial: &[i64]) ->
     }
 }
 
-// The node of a record with these parts. A record is anyone's to fill: its length is looked at before its file is.
-pub fn node_held(
-    file: &[u8],
+// The node of a record with these parts. A record is anyone's to fill: its length is looked at before its file is. One lifetime, since
+// several fields of a record are lent at one only.
+pub fn node_held<'a>(
+    file: &'a [u8],
     size: usize,
     first: bool,
-    last: &[i64],
+    last: &'a [i64],
     free: bool,
-    trial: &[i64],
+    trial: &'a [i64],
 ) -> Held
     requires { ⌜ length (now file) ≡ 1040 ⌝ }
     ensures { λ r. ⌜ r .node ≡ nodeHeld (now (file .entry)) size first (now (last .entry)) free (now (trial .entry)) ⌝ }

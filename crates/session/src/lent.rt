@@ -2,8 +2,8 @@
 use crate::Session;
 use crate::beginning::begun;
 use crate::committing::committed;
-use crate::stepping::step;
-use crate::trying::tried;
+use crate::making::step;
+use crate::making::tried;
 use answers::InstantVerdict;
 use answers::NodeVerdict;
 ghost use mathlib.Core.Path.{_≡_};

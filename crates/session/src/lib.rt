@@ -3,10 +3,10 @@ mod beginning;
 mod committing;
 mod holding;
 mod lent;
+mod making;
 mod outcomes;
+mod records;
 mod refusals;
-mod stepping;
-mod trying;
 
 pub use beginning::BegunSession;
 pub use beginning::begun;
@@ -15,9 +15,9 @@ pub use lent::begin;
 pub use lent::commit;
 pub use lent::instant;
 pub use lent::trial;
-pub use stepping::step;
-pub use trying::Stepped;
-pub use trying::tried;
+pub use making::Stepped;
+pub use making::step;
+pub use making::tried;
 
 // The session record: the node file without its note and its length, whether an instant was committed, the last committed values, and
 // a trial's where one is held.

@@ -1,5 +1,4 @@
 // The answer to a trial and to the old call, and its values.
-use crate::Session;
 use crate::holding::HeldNode;
 use crate::holding::node_held;
 use crate::refusals;
@@ -11,9 +10,11 @@ use streams::first_bad;
 use streams::worked_out;
 ghost use mathlib.Core.Path.{_≡_};
 ghost use lib.IntN.{pos};
+ghost use lib.ListN.{length as lengthOf};
 ghost use Rattle.answers.specs.Answer.{accepted, instantAnswer};
 ghost use Rattle.streams.specs.Instant.{filled};
 ghost use Rattle.session.specs.Instants.{answerOf, workedOut};
+ghost use Rattle.session.specs.Working.{withParts};
 
 // The answer, and the values of an answered call.
 pub struct Outcome {
@@ -31,18 +32,24 @@ fn refused(number: usize, place: Place) -> Outcome
     }
 }
 
-// 30 to 34 in order, for a slice of `room` values.
-pub fn outcome_of(s: Session, inputs: &[i64], room: usize) -> Outcome
-    ensures { λ r. ⌜ instantAnswer (r .answer) ≡ answerOf s (now (inputs .entry)) room ⌝ }
-    ensures { λ r. ⌜ (instantAnswer (r .answer) ≡ accepted tt → r .values ≡ filled 64 (pos 0) (workedOut s (now (inputs .entry)))) ⌝ }
+// 30 to 34 in order, for a slice of `room` values, of a record with these parts: it is lent by its fields, so that it is not copied.
+pub fn outcome_of<'a>(
+    length: usize,
+    last: &'a [i64],
+    trial: &'a [i64],
+    file: &'a [u8],
+    started: u8,
+    held: u8,
+    inputs: &[i64],
+    room: usize,
+) -> Outcome
+    requires { ⌜ lengthOf (now file) ≡ 1040 ⌝ }
+    ensures { λ r. ⌜ instantAnswer (r .answer) ≡ answerOf (withParts length (now (last .entry)) (now (trial .entry)) (now (file .entry)) started held) (now (inputs .entry)) room ⌝ }
+    ensures { λ r. ⌜ (instantAnswer (r .answer) ≡ accepted tt → r .values ≡ filled 64 (pos 0) (workedOut (withParts length (now (last .entry)) (now (trial .entry)) (now (file .entry)) started held) (now (inputs .entry)))) ⌝ }
 {
-    let length = s.length;
-    let file = s.file;
-    let last = s.last;
-    let trial = s.trial;
-    let first = s.started == 0;
-    let held = node_held(&file, length, first, &last, s.held == 0, &trial);
-    let found = held.node;
+    let first = started == 0;
+    let found_in = node_held(file, length, first, last, held == 0, trial);
+    let found = found_in.node;
     let HeldNode::Streams(n) = found else {
         return refused(refusals::NO_NODE, Place::File);
     };
@@ -56,8 +63,8 @@ pub fn outcome_of(s: Session, inputs: &[i64], room: usize) -> Outcome
     if let Found::At(i) = first_bad(node, inputs) {
         return refused(refusals::BOOL_INPUT, Place::Record(i));
     }
-    let order = held.order;
-    let worked = worked_out(node, &order[..n], inputs, first, &last);
+    let order = found_in.order;
+    let worked = worked_out(node, &order[..n], inputs, first, last);
     let outside = worked.outside;
     if let Found::At(i) = outside {
         return refused(refusals::OUTSIDE_RANGE, Place::Record(i));

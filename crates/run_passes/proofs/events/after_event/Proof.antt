@@ -1,12 +1,11 @@
 -- `run_passes::events::after_event` meets its contract: which event it is goes by its kind.
 -- Assumes nothing.
-use mathlib.Core.Path.{_≡_, sym, _∙_, ap}
-use native.Mathlib.Omega.{arith}
+use mathlib.Core.Path.{sym, _∙_, ap}
 use denote.Ref.{now}
 use lib.Dec.{eqb}
 use Prim.Native.Nat.{ℕ}
 use Rattle.session.specs.Events.{afterEvent}
-use Rattle.run_passes.specs.Pass.{kindOf, callOf, callEvent}
+use Rattle.run_passes.specs.Pass.{callOf, callEvent}
 use Rattle.run_passes.proofs.PassEvents.{beginning-long, is-beginning, is-commit, is-call}
 use borrow.Author.Needs.{needs}
 use Rattle.run_passes.proofs.events.after_event.Statement.{statement}

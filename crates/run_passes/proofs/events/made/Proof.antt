@@ -1,6 +1,5 @@
 -- `run_passes::events::made` meets its contract: it is the one or the other.
 -- Assumes nothing.
-use mathlib.Core.Path.{_∙_}
 use borrow.Author.Needs.{needs}
 use Rattle.run_passes.proofs.events.made.Statement.{statement}
 use Rattle.run_passes.proofs.events.made.Tie as tie

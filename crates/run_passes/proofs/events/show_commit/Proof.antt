@@ -1,6 +1,5 @@
 -- `run_passes::events::show_commit` meets its contract: the line is that of a call on no slice.
 -- Assumes nothing.
-use mathlib.Core.Path.{_∙_, ap}
 use borrow.Author.Needs.{needs}
 use Rattle.run_passes.proofs.events.show_commit.Statement.{statement}
 use Rattle.run_passes.proofs.events.show_commit.Tie as tie

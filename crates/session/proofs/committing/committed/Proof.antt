@@ -1,27 +1,14 @@
 -- `session::committed` meets its contract: 30 and 35 in turn, and then the record is moved on.
 -- Assumes nothing.
-use mathlib.Core.Path.{_≡_, refl, sym, _∙_, ap}
-use lib.ListN.{length, length-map}
+use mathlib.Core.Path.{refl, sym, _∙_, ap}
 use Rattle.answers.specs.Answer.{instantAnswer}
 use Rattle.session.proofs.Answering.{holds-none, holds-one, commit-by, commit-moves, commit-keeps}
 use borrow.Author.Needs.{needs}
 use Rattle.session.proofs.committing.committed.Statement.{statement}
 use Rattle.session.proofs.committing.committed.Tie as tie
 
-file-long : (c : tie.Start) → length (c .args .s .file) ≡ 1040
-file-long c = simp length-map at (c .good .0 .1 .1 .1 .1 .1 .0 .1 .0 .1)
-
-slice-aggregate-node-held : tie.Need-slice-aggregate-node-held
-slice-aggregate-node-held c = search needs
-
-slice-aggregate-node-held-2 : tie.Need-slice-aggregate-node-held-2
-slice-aggregate-node-held-2 c = search needs
-
-slice-aggregate-node-held-3 : tie.Need-slice-aggregate-node-held-3
-slice-aggregate-node-held-3 c = search needs
-
 node-held-requires : tie.Need-node-held-requires
-node-held-requires c κs = file-long (c .before .before .before .before .before .before .before .before)
+node-held-requires c κs = search needs
 
 enum-told : tie.Need-enum-told
 enum-told c = search needs
@@ -46,22 +33,19 @@ returns-2 c =
     let e = commit-by _ (holds-one _ (sym (told .before .before .node-held .ensures .0) ∙ told .enum-told .given .1) .0) (c .before .if1 .taken) in
     (ap instantAnswer (c .kept2 .ensures .0) ∙ e, c .kept2 .ensures .1 ∙ commit-keeps _ (sym e))
 
-moved-on-requires : tie.Need-moved-on-requires
-moved-on-requires c κs = search needs
+moved-to-requires : tie.Need-moved-to-requires
+moved-to-requires c κs = search needs
 
 returns-3 : tie.Need-returns-3
 returns-3 c =
-    let told = c .before .before in
-    let e = commit-by _ (holds-one _ (sym (told .before .before .node-held .ensures .0) ∙ told .enum-told .given .1) .0) (c .before .if1 .left) in
-    (e, c .moved-on .ensures ∙ commit-moves _ (sym e))
+    let told = c .before .before .before in
+    let e = commit-by _ (holds-one _ (sym (told .before .before .node-held .ensures .0) ∙ told .enum-told .given .1) .0) (c .before .before .if1 .left) in
+    (e, c .moved-to .ensures ∙ commit-moves _ (sym e))
 
 pub committed-spec : {M : Type 1} → statement M
 committed-spec =
     tie.close
     (tie.spec
-    slice-aggregate-node-held
-    slice-aggregate-node-held-2
-    slice-aggregate-node-held-3
     node-held-requires
     enum-told
     enum-told-2
@@ -69,5 +53,5 @@ committed-spec =
     returns
     kept-requires-2
     returns-2
-    moved-on-requires
+    moved-to-requires
     returns-3)

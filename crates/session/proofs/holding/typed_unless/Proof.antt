@@ -1,6 +1,5 @@
 -- `session::typed_unless` meets its contract.
 -- Assumes nothing.
-use mathlib.Core.Path.{_∙_, sym}
 use borrow.Author.Needs.{needs}
 use Rattle.session.proofs.holding.typed_unless.Statement.{statement}
 use Rattle.session.proofs.holding.typed_unless.Tie as tie

@@ -17,29 +17,20 @@ use Rattle.node.specs.Reads.{orderOf}
 use Rattle.node.proofs.FileRules.{Sizes}
 use Rattle.streams.specs.Instant.{inputFits, valueInside, firstAlong}
 use Rattle.session.specs.Records.{heldFile, holdsNode}
+use Rattle.session.specs.declared.Session.{Session}
 use Rattle.session.specs.Instants.{workedOut}
+use Rattle.session.specs.Working.{withParts}
 use Rattle.session.proofs.Answering.{holds-none, holds-one, held-short, held-accepted, held-sizes, answer-by, refusal}
 use borrow.Author.Needs.{needs}
 use Rattle.session.proofs.outcomes.outcome_of.Statement.{statement}
 use Rattle.session.proofs.outcomes.outcome_of.Tie as tie
 
-file-long : (c : tie.Start) → length (c .args .s .file) ≡ 1040
-file-long c = simp length-map at (c .good .0 .1 .1 .1 .1 .1 .0 .1 .0 .1)
-
-last-long : (c : tie.Start) → length (c .args .s .last) ≡ 64
-last-long c = simp length-map at (c .good .0 .1 .1 .1 .0 .1 .0 .1)
-
-slice-aggregate-node-held : tie.Need-slice-aggregate-node-held
-slice-aggregate-node-held c = search needs
-
-slice-aggregate-node-held-2 : tie.Need-slice-aggregate-node-held-2
-slice-aggregate-node-held-2 c = search needs
-
-slice-aggregate-node-held-3 : tie.Need-slice-aggregate-node-held-3
-slice-aggregate-node-held-3 c = search needs
+-- the record with the parts that are lent
+abbrev of-parts : tie.Start → Session
+of-parts c = let a = c .args in withParts (a .length) (now (a .last)) (now (a .trial)) (now (a .file)) (a .started) (a .held)
 
 node-held-requires : tie.Need-node-held-requires
-node-held-requires c κs = file-long (c .before .before .before .before .before .before .before .before)
+node-held-requires c κs = search needs
 
 enum-known-found : tie.Need-enum-known-found
 enum-known-found c = search needs
@@ -51,10 +42,10 @@ refused-requires : tie.Need-refused-requires
 refused-requires c κs = search needs
 
 abbrev start-of : tie.After-known-told → tie.Start
-start-of c = c .before .before .before .before .before .before .before .before .before .before .before .before
+start-of c = c .before .before .before .before .before
 
 -- the node that was found is the record's
-one : (c : tie.After-known-told) → let s = start-of c .args .s in (holdsNode s ≡ true) × (c .before .found .given .0 .0 ≡ streamsOf (heldFile s))
+one : (c : tie.After-known-told) → let s = of-parts (start-of c) in (holdsNode s ≡ true) × (c .before .found .given .0 .0 ≡ streamsOf (heldFile s))
 one c = holds-one _ (sym (c .before .before .before .node-held .ensures .0) ∙ c .before .found .given .1)
 
 abbrev told-of : tie.Else2 → tie.After-known-told
@@ -65,12 +56,9 @@ returns c =
     refusal _ _ _ _ (c .refused .ensures)
     (answer-by _ _ _ (holds-none _ (sym (c .before .before .before .node-held .ensures .0) ∙ c .before .enum-told .given .1)) refl refl refl refl)
 
-array-share-prefix-file : tie.Need-array-share-prefix-file
-array-share-prefix-file c = omega (arith, file-long (start-of c), held-short _ (one c .0))
-
 slice-aggregate-node : tie.Need-slice-aggregate-node
 slice-aggregate-node c =
-    sym (length-take-le _ _ (omega (arith, file-long (start-of (c .before)), held-short _ (one (c .before) .0))))
+    sym (length-take-le _ _ (omega (arith, start-of (c .before) .pre, held-short _ (one (c .before) .0))))
 
 input-count-requires : tie.Need-input-count-requires
 input-count-requires c κs = search needs
@@ -78,23 +66,23 @@ input-count-requires c κs = search needs
 refused-requires-2 : tie.Need-refused-requires-2
 refused-requires-2 c κs = search needs
 
-counted : (c : tie.Else1) → let a = start-of (c .before .before .before) .args in eqb (length (now (a .inputs))) (inputCount (heldFile (a .s))) ≡ true
+counted : (c : tie.Else1) → let start = start-of (c .before .before .before) in let s = of-parts start in eqb (length (now (start .args .inputs))) (inputCount (heldFile s)) ≡ true
 counted c = rw (c .before .input-count .ensures) at (eq-eqb _ _ (c .if1 .left))
 
-sized : (c : tie.Else2) → let a = start-of (told-of c) .args in eqb (a .room) (streamsOf (heldFile (a .s))) ≡ true
+sized : (c : tie.Else2) → let start = start-of (told-of c) in let s = of-parts start in eqb (start .args .room) (streamsOf (heldFile s)) ≡ true
 sized c = rw (one (told-of c) .1) at (eq-eqb _ _ (c .if2 .left))
 
-sizes : (c : tie.Else2) → Sizes (heldFile (start-of (told-of c) .args .s))
+sizes : (c : tie.Else2) → Sizes (heldFile (of-parts (start-of (told-of c))))
 sizes c = held-sizes _ (one (told-of c) .0)
 
 -- what the searches found is the definition's
-bad-is : (c : tie.After-first-bad) → let a = start-of (told-of (c .before)) .args in lowest (inputFits (heldFile (a .s)) (now (a .inputs))) (streamsOf (heldFile (a .s))) ≡ c .first-bad .result
+bad-is : (c : tie.After-first-bad) → let start = start-of (told-of (c .before)) in let s = of-parts start in lowest (inputFits (heldFile s) (now (start .args .inputs))) (streamsOf (heldFile s)) ≡ c .first-bad .result
 bad-is c = ap (lowest _) (sym (sizes (c .before) .records)) ∙ sym (c .first-bad .ensures)
 
-typed : (c : tie.After-enum-told2) → let a = start-of (told-of (c .before .before .before)) .args in lowest (inputFits (heldFile (a .s)) (now (a .inputs))) (streamsOf (heldFile (a .s))) ≡ Nothing
+typed : (c : tie.After-enum-told2) → let start = start-of (told-of (c .before .before .before)) in let s = of-parts start in lowest (inputFits (heldFile s) (now (start .args .inputs))) (streamsOf (heldFile s)) ≡ Nothing
 typed c = bad-is (c .before .before) ∙ c .enum-told2 .given .1
 
-outside-is : (c : tie.After-worked-out) → let a = start-of (told-of (c .before .before .before .before .before .before .before)) .args in firstAlong (orderOf (heldFile (a .s))) (valueInside (workedOut (a .s) (now (a .inputs)))) ≡ c .worked-out .result .outside
+outside-is : (c : tie.After-worked-out) → let start = start-of (told-of (c .before .before .before .before .before .before)) in let s = of-parts start in firstAlong (orderOf (heldFile s)) (valueInside (workedOut s (now (start .args .inputs)))) ≡ c .worked-out .result .outside
 outside-is c = sym (c .worked-out .ensures .0)
 
 returns-2 : tie.Need-returns-2
@@ -151,15 +139,12 @@ slice-aggregate-worked-out c =
     let held-node = told-of (told .before .before .before) .before .before .before in
     sym (length-take-le _ (held-node .node-held .result .order) (omega (arith, few told, order-long held-node)))
 
-slice-aggregate-worked-out-2 : tie.Need-slice-aggregate-worked-out-2
-slice-aggregate-worked-out-2 c = sym (last-long (start-of (told-of (c .before .before .before .before .before .before))))
-
 worked-out-requires : tie.Need-worked-out-requires
 unfolding holdsNode
 worked-out-requires c κs =
-    let told = told-of (c .before .before .before .before .before .before) in
+    let told = told-of (c .before .before .before .before .before) in
     let holds = one told in
-    (held-accepted (start-of told .args .s) (holds .0), ap (λ (n : ℕ). take n (told .before .before .before .node-held .result .order)) (holds .1) ∙ told .before .before .before .node-held .ensures .1 (holds .0))
+    (held-accepted (of-parts (start-of told)) (holds .0), ap (λ (n : ℕ). take n (told .before .before .before .node-held .result .order)) (holds .1) ∙ told .before .before .before .node-held .ensures .1 (holds .0))
 
 enum-known-outside : tie.Need-enum-known-outside
 enum-known-outside c = search needs
@@ -170,7 +155,7 @@ refused-requires-5 c κs = search needs
 returns-5 : tie.Need-returns-5
 returns-5 c =
     let worked = c .before .before .before .before in
-    let told = worked .before .before .before .before in
+    let told = worked .before .before .before in
     let at = told .before .before .before in
     refusal _ _ _ _ (c .refused5 .ensures)
     (answer-by _ _ _ (one (told-of at) .0) (counted (at .before)) (sized at) (typed told) (outside-is worked ∙ c .before .before .outside .given .1))
@@ -181,7 +166,7 @@ enum-told-3 c = search needs
 returns-6 : tie.Need-returns-6
 returns-6 c =
     let worked = c .before .before .before in
-    let told = worked .before .before .before .before in
+    let told = worked .before .before .before in
     let at = told .before .before .before in
     let none = c .before .enum-told3 .given .1 in (
       answer-by _ _ _ (one (told-of at) .0) (counted (at .before)) (sized at) (typed told) (outside-is worked ∙ none),
@@ -192,15 +177,11 @@ pub outcome-of-spec : {M : Type 1} → statement M
 outcome-of-spec =
     tie.close
     (tie.spec
-    slice-aggregate-node-held
-    slice-aggregate-node-held-2
-    slice-aggregate-node-held-3
     node-held-requires
     enum-known-found
     enum-told
     refused-requires
     returns
-    array-share-prefix-file
     slice-aggregate-node
     input-count-requires
     refused-requires-2
@@ -214,7 +195,6 @@ outcome-of-spec =
     enum-told-2
     array-share-prefix-order
     slice-aggregate-worked-out
-    slice-aggregate-worked-out-2
     worked-out-requires
     enum-known-outside
     refused-requires-5

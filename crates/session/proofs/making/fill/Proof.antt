@@ -9,8 +9,8 @@ use mir.Syntax.{w64}
 use mir.ValLaws.{toZ-ofZ}
 use Rattle.session.proofs.Filled.{over, over-more}
 use borrow.Author.Needs.{needs}
-use Rattle.session.proofs.trying.fill.Statement.{statement}
-use Rattle.session.proofs.trying.fill.Tie as tie
+use Rattle.session.proofs.making.fill.Statement.{statement}
+use Rattle.session.proofs.making.fill.Tie as tie
 
 abbrev Inv-loop : tie.InvT-loop
 Inv-loop out₀ n values i₀ out i = (i ≤ n) × (length out ≡ length out₀) × (out ≡ over out₀ values i)
