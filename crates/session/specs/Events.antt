@@ -54,7 +54,7 @@ pub data Trial : Type 0 where
   some : Answered → Trial
 
 -- What was answered since an answered beginning, on its file. "01's t there counts answered commits, the old call's too, and commit t's
--- inputs and numbers are its trial's": `done` has these. "An answered trial after t such commits is judged as call t, on their inputs
+-- inputs and numbers are its trial's": `done` has these. "an answered trial after t such commits is judged as call t, on their inputs
 -- and its own": for each answered trial, the old call's too, `tried` has those commits and then the trial.
 pub record Run : Type 0 where
   pub node : List ℕ

@@ -1,4 +1,4 @@
--- What is proved of every list of calls from an answered beginning, stated without the proofs (demand 2): "where demand 2 says answered
+-- What is proved of every list of events from an answered beginning, stated without the proofs (demand 2): "where demand 2 says answered
 -- so far, it now means committed". No certificate is needed.
 use Prim.Native.Nat.{ℕ, suc, _<_}
 use mathlib.Core.Path.{_≡_}
@@ -65,7 +65,7 @@ answerGiven file c values =
     (checkAll (firstAlong (orderOf file) (λ i. inside (values i))) 34 AtRecord
     (accepted tt))))
 
--- v is a solution on the answered inputs and then the call's own
+-- v is a solution on the inputs of the answered calls, of commits that is, and then the call's own
 abbrev pub Judged : (file : List ℕ) → (done : List Answered) → Call → (v : Streams) → Type 0
 Judged file done c v = (of-v : Solves file done v) × (of-v .inputs (length done) ≡ c .inputs)
 
