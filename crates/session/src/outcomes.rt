@@ -10,7 +10,7 @@ use streams::first_bad;
 use streams::worked_out;
 ghost use mathlib.Core.Path.{_≡_};
 ghost use lib.IntN.{pos};
-ghost use lib.ListN.{length as lengthOf};
+ghost use lib.ListN.{length};
 ghost use Rattle.answers.specs.Answer.{accepted, instantAnswer};
 ghost use Rattle.streams.specs.Instant.{filled};
 ghost use Rattle.session.specs.Instants.{answerOf, workedOut};
@@ -34,7 +34,7 @@ fn refused(number: usize, place: Place) -> Outcome
 
 // 30 to 34 in order, for a slice of `room` values, of a record with these parts: it is lent by its fields, so that it is not copied.
 pub fn outcome_of<'a>(
-    length: usize,
+    size: usize,
     last: &'a [i64],
     trial: &'a [i64],
     file: &'a [u8],
@@ -43,17 +43,17 @@ pub fn outcome_of<'a>(
     inputs: &[i64],
     room: usize,
 ) -> Outcome
-    requires { ⌜ lengthOf (now file) ≡ 1040 ⌝ }
-    ensures { λ r. ⌜ instantAnswer (r .answer) ≡ answerOf (withParts length (now (last .entry)) (now (trial .entry)) (now (file .entry)) started held) (now (inputs .entry)) room ⌝ }
-    ensures { λ r. ⌜ (instantAnswer (r .answer) ≡ accepted tt → r .values ≡ filled 64 (pos 0) (workedOut (withParts length (now (last .entry)) (now (trial .entry)) (now (file .entry)) started held) (now (inputs .entry)))) ⌝ }
+    requires { ⌜ length (now file) ≡ 1040 ⌝ }
+    ensures { λ r. ⌜ instantAnswer (r .answer) ≡ answerOf (withParts size (now (last .entry)) (now (trial .entry)) (now (file .entry)) started held) (now (inputs .entry)) room ⌝ }
+    ensures { λ r. ⌜ (instantAnswer (r .answer) ≡ accepted tt → r .values ≡ filled 64 (pos 0) (workedOut (withParts size (now (last .entry)) (now (trial .entry)) (now (file .entry)) started held) (now (inputs .entry)))) ⌝ }
 {
     let first = started == 0;
-    let found_in = node_held(file, length, first, last, held == 0, trial);
+    let found_in = node_held(file, size, first, last, held == 0, trial);
     let found = found_in.node;
     let HeldNode::Streams(n) = found else {
         return refused(refusals::NO_NODE, Place::File);
     };
-    let node = &file[..length];
+    let node = &file[..size];
     if inputs.len() != input_count(node) {
         return refused(refusals::INPUT_COUNT, Place::File);
     }

@@ -27,7 +27,7 @@ use Rattle.session.proofs.outcomes.outcome_of.Tie as tie
 
 -- the record with the parts that are lent
 abbrev of-parts : tie.Start → Session
-of-parts c = let a = c .args in withParts (a .length) (now (a .last)) (now (a .trial)) (now (a .file)) (a .started) (a .held)
+of-parts c = let a = c .args in withParts (a .size) (now (a .last)) (now (a .trial)) (now (a .file)) (a .started) (a .held)
 
 node-held-requires : tie.Need-node-held-requires
 node-held-requires c κs = search needs
