@@ -1,15 +1,17 @@
 -- An answer as the paper gives it leaves one value of the enum.
 -- Assumes nothing.
-use mathlib.Core.Path.{_≡_, refl}
+use mathlib.Core.Path.{_≡_, refl, ap}
 use Rattle.answers.specs.declared.NodeVerdict.{NodeVerdict}
 use Rattle.answers.specs.declared.NodeVerdict.the-variants.{Accepted, Refused}
 use Rattle.answers.specs.declared.CertificateVerdict.{CertificateVerdict}
 use Rattle.answers.specs.declared.CertificateVerdict.the-variants.{Accepted as Proved, Refused as NotProved}
+use Rattle.answers.specs.declared.TurnVerdict.{TurnVerdict}
+use Rattle.answers.specs.declared.TurnVerdict.the-variants.{Final, Unfinished}
 use Rattle.answers.specs.declared.InstantVerdict.{InstantVerdict}
 use Rattle.answers.specs.declared.InstantVerdict.the-variants.{Answered, Refused as NotAnswered}
 use Rattle.answers.specs.declared.ListedVerdict.{ListedVerdict}
 use Rattle.answers.specs.declared.ListedVerdict.the-variants.{Listed, Refused as NotListed}
-use Rattle.answers.specs.Answer.{NodeValues, CertificateValues, nodeAnswer, certificateAnswer, instantAnswer, listedAnswer}
+use Rattle.answers.specs.Answer.{NodeValues, CertificateValues, nodeAnswer, certificateAnswer, turnAnswer, instantAnswer, listedAnswer}
 
 pub node-answer-tells : (v w : NodeVerdict) → nodeAnswer v ≡ nodeAnswer w → v ≡ w
 node-answer-tells (Accepted n p) (Accepted m q) e =
@@ -26,6 +28,12 @@ certificate-answer-tells (Proved k b s) (Proved l c t) e =
 certificate-answer-tells (Proved k b s) (NotProved r at) e = cc
 certificate-answer-tells (NotProved r at) (Proved l c t) e = cc
 certificate-answer-tells (NotProved r at) (NotProved s to) e = cc
+
+pub turn-answer-tells : (v w : TurnVerdict) → turnAnswer v ≡ turnAnswer w → v ≡ w
+turn-answer-tells (Final v) (Final w) e = ap Final (certificate-answer-tells v w cc)
+turn-answer-tells (Final v) Unfinished e = cc
+turn-answer-tells Unfinished (Final w) e = cc
+turn-answer-tells Unfinished Unfinished e = refl
 
 pub instant-answer-tells : (v w : InstantVerdict) → instantAnswer v ≡ instantAnswer w → v ≡ w
 instant-answer-tells Answered Answered e = refl

@@ -7,6 +7,8 @@ use Rattle.answers.specs.declared.NodeVerdict.{NodeVerdict}
 use Rattle.answers.specs.declared.NodeVerdict.the-variants.{Accepted, Refused}
 use Rattle.answers.specs.declared.CertificateVerdict.{CertificateVerdict}
 use Rattle.answers.specs.declared.CertificateVerdict.the-variants.{Accepted as Proved, Refused as NotProved}
+use Rattle.answers.specs.declared.TurnVerdict.{TurnVerdict}
+use Rattle.answers.specs.declared.TurnVerdict.the-variants.{Final, Unfinished}
 use Rattle.answers.specs.declared.InstantVerdict.{InstantVerdict}
 use Rattle.answers.specs.declared.InstantVerdict.the-variants.{Answered, Refused as NotAnswered}
 use Rattle.answers.specs.declared.ListedVerdict.{ListedVerdict}
@@ -43,6 +45,15 @@ pub record CertificateValues : Type 0 where
 abbrev pub certificateAnswer : CertificateVerdict → Answer CertificateValues
 certificateAnswer (Proved k b s) = accepted (record { depth = k; base = b; step = s })
 certificateAnswer (NotProved number place) = refused number place
+
+-- a turn's answer: "While lines are left the answer is "unfinished"", else it is final
+pub data TurnAnswer : Type 0 where
+  final : Answer CertificateValues → TurnAnswer
+  unfinished : TurnAnswer
+
+abbrev pub turnAnswer : TurnVerdict → TurnAnswer
+turnAnswer (Final verdict) = final (certificateAnswer verdict)
+turnAnswer Unfinished = unfinished
 
 -- an answered instant's call carries nothing: its values are in the lent slice
 abbrev pub instantAnswer : InstantVerdict → Answer (Unit {0})

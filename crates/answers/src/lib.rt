@@ -29,6 +29,12 @@ pub enum CertificateVerdict {
     Refused(usize, Place),
 }
 
+// The verdict of a turn of checking: the final one on the certificate, or lines are left.
+pub enum TurnVerdict {
+    Final(CertificateVerdict),
+    Unfinished,
+}
+
 // The answer to an instant's call: answered, or the number of the first rule that is broken, and where.
 pub enum InstantVerdict {
     Answered,

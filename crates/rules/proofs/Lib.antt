@@ -29,3 +29,6 @@ pub mod Search
 pub mod ShapeFacts
 pub mod SolutionWindows
 pub mod Soundness
+pub mod TurnFacts
+pub mod TurnLists
+pub mod Turns

@@ -86,6 +86,10 @@ module _ (version : Version) (node cert : List ℕ) where
   after-node (accepted v) e = of-file (node-keeps node e)
   after-node (refused number place) e = in-node (node-first node e)
 
+  pub opens : {v : Unit {0}} → beforeLines version node cert ≡ accepted v → BeforeLines version node cert
+  unfolding beforeLines
+  opens e = subst Opens e (after-node (nodeVerdict node) refl)
+
   after-opening : (a : Answer (Unit {0})) → Opens a → Says version node cert (andThen a (linesVerdict version node cert))
   after-opening (accepted v) b = of-lines b
   after-opening (refused number place) f = f

@@ -13,6 +13,8 @@ pub mod Outcome
 pub mod Satisfaction
 pub mod Types
 pub mod Theorems
+pub mod TurnTheorems
+pub mod Turns
 pub mod Verdict
 pub mod Versions
 pub mod Windows

@@ -105,7 +105,7 @@ abbrev pub linePasses : Version → (node cert : List ℕ) → (i : ℕ) → Boo
 linePasses version node cert i = eqb (lineFault version node cert i) 0
 
 -- the lowest line at fault, refused with the number of what it breaks
-abbrev pub checkLines : Found → (number : ℕ → ℕ) → Answer CertificateValues → Answer CertificateValues
+abbrev pub checkLines : {A : Type 0} → Found → (number : ℕ → ℕ) → Answer A → Answer A
 checkLines (At i) number rest = refused (number i) (AtLine i)
 checkLines Nothing number rest = rest
 
