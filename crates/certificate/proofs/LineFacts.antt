@@ -1,10 +1,10 @@
 -- What was read of both files before the lines are checked, put to use: each line's rule as the verdict has it, and what a line that
 -- passes rule 16 gives the rules after it.
 -- Assumes nothing.
-use mathlib.Core.Path.{_≡_, refl, sym, _∙_, ap, ap₂, fun-ext}
+use mathlib.Core.Path.{_≡_, sym, _∙_, ap, ap₂, fun-ext}
 use mathlib.Core.Bool.{true}
 use mathlib.Core.List.{List}
-use Prim.Native.Nat.{ℕ, _+_, _*_, _<_, _≤_}
+use Prim.Native.Nat.{ℕ, _+_, _*_, _≤_}
 use native.Mathlib.Omega.{arith}
 use lib.ListN.{length}
 use Rattle.node.specs.Equations.{typeAt, equationAt}
@@ -29,8 +29,7 @@ use Rattle.matching.specs.Content.{Readable}
 use Rattle.certificate.specs.declared.frame.Frame.{Frame}
 use Rattle.certificate.specs.Checking.{Checking}
 use Rattle.certificate.specs.Constants.{ConstantsLimited}
-use Rattle.certificate.specs.Frame.{frameOf, partIn}
-use Rattle.certificate.specs.Ready.{linesAt, LinesReady}
+use Rattle.certificate.specs.Frame.{frameOf, linesAt, partIn}
 use Rattle.certificate.proofs.NodeFacts.{constants-limited}
 
 -- the lines of a frame are the file's
@@ -110,8 +109,3 @@ module _ (node cert : List ℕ) (f : Frame) (ch : Checking node cert f) where
 
       pub property-is : partIn f i .property (lineWith cert at h) ≡ propertyPasses version2 node cert i
       property-is = ap₂ (λ (g : Frame) (line : Line). partIn g i .property line) (ch .frame) line-is
-
-  -- lines 0 to i, each of which has passed rule 16
-  pub lines-ready : (i : ℕ) → i < f .base + f .step → ((j : ℕ) → j < i + 1 → shapePasses node cert j ≡ true) → LinesReady cert (f .lines) i
-  lines-ready i l passed =
-      record { room = omega (arith, ch .room); counts = λ j m. line-shape j (f .lines + 80 * j) refl (passed j m) .count }

@@ -3,17 +3,21 @@
 use mathlib.Core.Path.{_≡_, sym, _∙_, ap, ap₂}
 use mathlib.Core.Bool.{Bool, not}
 use mathlib.Core.List.{List}
-use Prim.Native.Nat.{ℕ}
+use Prim.Native.Nat.{ℕ, _+_}
 use native.Mathlib.Nat.{sub-zero, add-sub-cancel-left}
 use Rattle.answers.specs.Checks.{every}
 use Rattle.constraints.specs.Layout.{Line, trailerOf, lineOf}
 use Rattle.rules.specs.Lines.{hasLiterals, hasEmpty}
-use Rattle.rules.specs.Verdict.{baseOf, stepOf}
+use Rattle.rules.specs.Verdict.{baseOf, stepOf, linesOf}
 use Rattle.rules.specs.Versions.{version2}
 use Rattle.certificate.specs.declared.frame.Frame.{Frame}
 use Rattle.certificate.specs.Frame.{frameOf}
-use Rattle.certificate.specs.Ready.{linesAt}
+use Rattle.certificate.specs.Frame.{linesAt}
 use Rattle.certificate.proofs.LineFacts.{lines-are}
+
+-- the lines that a frame counts are the file's
+pub lines-counted : (cert : List ℕ) (f : Frame) (n property : ℕ) → f ≡ frameOf cert n property → f .base + f .step ≡ linesOf cert
+lines-counted cert f n property e = ap (λ (g : Frame). g .base + g .step) e
 
 -- n lines from `from` on have an empty one among them
 abbrev emptyAmong : (ℕ → Line) → (from n : ℕ) → Bool

@@ -3,7 +3,7 @@ use Prim.Native.Nat.{ℕ, _+_, _*_}
 use mathlib.Core.Bool.{cond}
 use mathlib.Core.List.{List}
 use lib.Dec.{ltb}
-use Rattle.constraints.specs.Layout.{trailerOf, startOf}
+use Rattle.constraints.specs.Layout.{Line, trailerOf, startOf, lineAt}
 use Rattle.rules.specs.Lines.{Window, baseWindow, stepWindow}
 use Rattle.rules.specs.Versions.{version2}
 use Rattle.certificate.specs.declared.frame.Frame.{Frame}
@@ -22,6 +22,10 @@ frameOf cert streams property =
       streams = streams;
       property = property;
     }
+
+-- the lines of a file whose line 0 stands at an offset
+abbrev pub linesAt : List ℕ → (lines i : ℕ) → Line
+linesAt s lines i = lineAt s (lines + 80 * i)
 
 -- the part that line i stands in
 abbrev pub partIn : Frame → (i : ℕ) → Window

@@ -1,5 +1,5 @@
 pub mod Checking
 pub mod Constants
 pub mod Frame
-pub mod Ready
 pub mod Slots
+pub mod Turned

@@ -22,11 +22,10 @@ ghost use Rattle.constraints.specs.Layout.{lineHeadAt, lineAt, constraintsFrom,
 ghost use Rattle.constraints.specs.Rules.{typesOf};
 ghost use Rattle.rules.specs.Joins.{joinOk};
 ghost use Rattle.rules.specs.Lines.{equationIn};
-ghost use Rattle.rules.specs.Verdict.{typesOfNode, shapePasses, ownFault, lineFault, linePasses};
+ghost use Rattle.rules.specs.Verdict.{typesOfNode, shapePasses, ownFault, lineFault};
 ghost use Rattle.rules.specs.Versions.{version2};
 ghost use Rattle.certificate.specs.Checking.{Checking};
-ghost use Rattle.certificate.specs.Frame.{partIn};
-ghost use Rattle.certificate.specs.Ready.{LinesReady, linesAt};
+ghost use Rattle.certificate.specs.Frame.{linesAt, partIn};
 
 // Rule 17, of line i, which stands at an offset.
 fn equation_passes(node: &[u8], cert: &[u8], f: Frame, at: usize, i: usize) -> bool
@@ -55,7 +54,7 @@ fn property_passes(cert: &[u8], f: Frame, at: usize, h: LineHead, i: usize) -> b
 
 // Rule 19, of line i.
 fn join_passes(cert: &[u8], f: Frame, i: usize) -> bool
-    requires { ⌜ LinesReady (now cert) (f .lines) i ⌝ }
+    requires { ⌜ f .lines + 80 * (i + 1) ≤ length (now cert) ⌝ }
     ensures { λ r. ⌜ r ≡ joinOk (linesAt (now (cert .entry)) (f .lines)) (partIn f i .from) i ⌝ }
 {
     if i < f.base {
@@ -72,7 +71,7 @@ fn unless(ok: bool, number: usize) -> usize
     if ok { 0 } else { number }
 }
 
-// The number of the rule of line i's kind, where the line breaks it, else 0; rule 16 has passed it and the lines before it.
+// The number of the rule of line i's kind, where the line breaks it, else 0; rule 16 has passed it.
 fn own_fault(
     sums: &mut [i64],
     node: &[u8],
@@ -83,7 +82,7 @@ fn own_fault(
     i: usize,
 ) -> usize
     requires { ⌜ Checking (now node) (now cert) f × (at ≡ f .lines + 80 * i) × (h ≡ lineHeadAt (now cert) at) ⌝ }
-    requires { ⌜ (shapePasses (now node) (now cert) i ≡ true) × LinesReady (now cert) (f .lines) i ⌝ }
+    requires { ⌜ (shapePasses (now node) (now cert) i ≡ true) × (i < f .base + f .step) ⌝ }
     requires { ⌜ now sums ≡ replicate 576 (pos 0) ⌝ }
     ensures answer { λ r. ⌜ r ≡ ownFault version2 (now (node .entry)) (now (cert .entry)) i ⌝ }
     ensures cleared { λ r. ⌜ (r ≡ 0 → now (sums .exit) ≡ replicate 576 (pos 0)) ⌝ }
@@ -109,8 +108,8 @@ fn own_fault(
     unless(ok, refusals::CUT)
 }
 
-// The number of the first rule that line i breaks, 16 before its kind's, where the lines before it break none; 0 where it breaks
-// none either. The sums are lent at zero, and such a line leaves them so.
+// The number of the first rule that line i breaks, 16 before its kind's, whatever the lines before it hold; 0 where it breaks none.
+// The sums are lent at zero, and such a line leaves them so.
 pub fn line_fault(
     sums: &mut [i64],
     node: &[u8],
@@ -120,7 +119,7 @@ pub fn line_fault(
     i: usize,
 ) -> usize
     requires { ⌜ Checking (now node) (now cert) f × ((x : ℕ) → typesOf (now types) x ≡ typesOfNode (now node) x) ⌝ }
-    requires { ⌜ (i < f .base + f .step) × ((j : ℕ) → j < i → linePasses version2 (now node) (now cert) j ≡ true) ⌝ }
+    requires { ⌜ i < f .base + f .step ⌝ }
     requires { ⌜ now sums ≡ replicate 576 (pos 0) ⌝ }
     ensures answer { λ r. ⌜ r ≡ lineFault version2 (now (node .entry)) (now (cert .entry)) i ⌝ }
     ensures cleared { λ r. ⌜ (r ≡ 0 → now (sums .exit) ≡ replicate 576 (pos 0)) ⌝ }

@@ -7,20 +7,21 @@ ghost use mathlib.Core.Bool.{not};
 ghost use lib.ListN.{length};
 ghost use Rattle.answers.specs.Checks.{every};
 ghost use Rattle.rules.specs.Lines.{hasLiterals};
-ghost use Rattle.certificate.specs.Ready.{linesAt};
+ghost use Rattle.certificate.specs.Frame.{linesAt};
 
-// Whether one of the n lines from `from` on has no literal, where line 0 stands at an offset.
+// Whether one of the n lines from `from` on has no literal, where line 0 stands at an offset. The last is looked at first, since
+// that is where most refutations end.
 pub fn has_empty(file: &[u8], lines: usize, from: usize, n: usize) -> bool
     requires { ⌜ lines + 80 * (from + n) ≤ length (now file) ⌝ }
     ensures { λ r. ⌜ r ≡ not (every (hasLiterals (linesAt (now (file .entry)) lines) from) n) ⌝ }
 {
-    let mut i = 0;
-    while i < n {
-        let head = line_head(file, block_at(lines, from + i));
+    let mut left = n;
+    while 0 < left {
+        left -= 1;
+        let head = line_head(file, block_at(lines, from + left));
         if head.count == 0 {
             return true;
         }
-        i += 1;
     }
     false
 }

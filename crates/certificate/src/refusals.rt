@@ -24,3 +24,5 @@ pub const ARITHMETIC: usize = 20;
 pub const NO_EMPTY_LINE: usize = 21;
 // "a kind 5 line not as described, multipliers included"
 pub const CUT: usize = 22;
+// "progress past the last line"
+pub const PROGRESS: usize = 55;

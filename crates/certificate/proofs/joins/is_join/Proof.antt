@@ -1,4 +1,4 @@
--- `certificate::is_join` meets its contract: the four searches in a row, with the counts that were read.
+-- `certificate::is_join` meets its contract: the four searches in a row, over the literals that each line lists.
 -- Assumes nothing.
 use mathlib.Core.Path.{_≡_, refl, sym, _∙_, ap}
 use mathlib.Core.Bool.{Bool, _&&_}
@@ -8,9 +8,8 @@ use native.Mathlib.Nat.{sub-zero}
 use borrow.Author.Needs.{needs}
 use borrow.Author.Tests.{not-true, not-false}
 use denote.Ref.{now}
-use Rattle.constraints.specs.declared.layout.LineHead.{LineHead}
-use Rattle.constraints.specs.Layout.{Line, lineAt}
-use Rattle.constraints.proofs.Blocks.{listed-is}
+use Rattle.constraints.specs.Layout.{Line, lineAt, listedIn}
+use Rattle.constraints.proofs.Blocks.{listed-few}
 use Rattle.literals.specs.Literals.{oppositeOf}
 use Rattle.rules.specs.Joins.{standsFrom, standsIn, joins}
 use Rattle.certificate.proofs.joins.is_join.Statement.{statement}
@@ -19,80 +18,65 @@ use Rattle.certificate.proofs.joins.is_join.Tie as tie
 opposite-requires : tie.Need-opposite-requires
 opposite-requires c κs = search needs
 
-line-head-requires : tie.Need-line-head-requires
-line-head-requires c κs = search needs
+listed-at-requires : tie.Need-listed-at-requires
+listed-at-requires c κs = search needs
 
-cast-in-p : tie.Need-cast-in-p
-cast-in-p c = search needs
+listed-at-requires-2 : tie.Need-listed-at-requires-2
+listed-at-requires-2 c κs = search needs
 
-line-head-requires-2 : tie.Need-line-head-requires-2
-line-head-requires-2 c κs = search needs
+listed-at-requires-3 : tie.Need-listed-at-requires-3
+listed-at-requires-3 c κs = search needs
 
-cast-in-q : tie.Need-cast-in-q
-cast-in-q c = search needs
+-- as many as a line lists are at most twelve
+few : (line : Line) (n : ℕ) → n ≡ listedIn line → n ≤ 12
+few line n e = rw e (listed-few line)
 
-line-head-requires-3 : tie.Need-line-head-requires-3
-line-head-requires-3 c κs = search needs
+-- each of the three counts
+module _ (c : tie.After-listed-at3) where
+  abbrev in-p : tie.After-listed-at
+  in-p = c .before .before
 
-cast-here : tie.Need-cast-here
-cast-here c = search needs
+  pub few-p : in-p .listed-at .result ≤ 12
+  few-p = few _ _ (in-p .listed-at .ensures)
 
--- each of the three lines lists at most twelve literals
-few-p : (c : tie.After-line-head) → c .line-head .result .count ≤ 12
-few-p c = rw (c .line-head .ensures) (c .before .before .before .pre .1 .0)
+  pub few-q : c .before .listed-at2 .result ≤ 12
+  few-q = few _ _ (c .before .listed-at2 .ensures)
 
-few-q : (c : tie.After-line-head2) → c .line-head2 .result .count ≤ 12
-few-q c = rw (c .line-head2 .ensures) (c .before .before .before .before .before .pre .1 .1)
-
-few-here : (c : tie.After-line-head3) → c .line-head3 .result .count ≤ 12
-few-here c = rw (c .line-head3 .ensures) (c .before .before .before .before .before .before .before .pre .1 .2)
+  pub few-here : c .listed-at3 .result ≤ 12
+  few-here = few _ _ (c .listed-at3 .ensures)
 
 stands-from-requires : tie.Need-stands-from-requires
-stands-from-requires c κs =
-    let here = c .before in
-    (here .before .before .before .before .before .before .before .pre .0 .0, few-p (here .before .before .before .before))
+stands-from-requires c κs = (c .before .before .before .before .before .pre .0, few-p c)
 
 stands-from-requires-2 : tie.Need-stands-from-requires-2
-stands-from-requires-2 c κs =
-    let here = c .before .before in
-    (here .before .before .before .before .before .before .before .pre .0 .1, few-q (here .before .before))
+stands-from-requires-2 c κs = (c .before .before .before .before .before .before .pre .1, few-q (c .before))
 
--- a search over the head that was read is one over the line's
-searched : (line : Line) (l m : ℕ) (read : LineHead) → l ≡ m → read ≡ line .head → line .head .count ≤ 12 → standsFrom (line .literal) l 0 (read .count - 0) ≡ standsIn line m
-searched line l m read e f few = rw (e, f, sub-zero, listed-is line few)
+-- a search over as many literals as a line lists is one in the line
+searched : (line : Line) (l m n : ℕ) → l ≡ m → n ≡ listedIn line → standsFrom (line .literal) l 0 (n - 0) ≡ standsIn line m
+searched line l m n e f = rw (e, f, sub-zero)
 
 -- what both searches say, of the lines
 module _ (c : tie.After-stands-from2) where
-  abbrev here : tie.After-line-head3
-  here = c .before .before .before
-
-  abbrev in-p : tie.After-line-head
-  in-p = here .before .before .before .before
+  abbrev here : tie.After-listed-at3
+  here = c .before .before
 
   abbrev bytes : List ℕ
-  bytes = now (in-p .before .before .before .args .file)
+  bytes = now (here .before .before .before .before .before .args .file)
 
   abbrev p : Line
-  p = lineAt bytes (in-p .before .before .before .args .p)
+  p = lineAt bytes (here .before .before .before .before .before .args .p)
 
   abbrev q : Line
-  q = lineAt bytes (in-p .before .before .before .args .q)
-
-  abbrev line : Line
-  line = lineAt bytes (in-p .before .before .before .args .at)
+  q = lineAt bytes (here .before .before .before .before .before .args .q)
 
   abbrev r : ℕ
-  r = in-p .before .before .before .args .r .0
-
-  few : (p .head .count ≤ 12) × (q .head .count ≤ 12) × (line .head .count ≤ 12)
-  few = in-p .before .before .before .pre .1
+  r = here .before .before .before .before .before .args .r .0
 
   in-p-is : c .before .stands-from .result ≡ standsIn p r
-  in-p-is = c .before .stands-from .ensures ∙ searched p r r _ refl (in-p .line-head .ensures) (few .0)
+  in-p-is = c .before .stands-from .ensures ∙ searched p r r _ refl (here .before .before .listed-at .ensures)
 
   in-q-is : c .stands-from2 .result ≡ standsIn q (oppositeOf r)
-  in-q-is =
-      c .stands-from2 .ensures ∙ searched q _ (oppositeOf r) _ (in-p .before .opposite .ensures) (here .before .before .line-head2 .ensures) (few .1)
+  in-q-is = c .stands-from2 .ensures ∙ searched q _ (oppositeOf r) _ (here .before .before .before .opposite .ensures) (here .before .listed-at2 .ensures)
 
   pub both-are : (c .before .stands-from .result && c .stands-from2 .result) ≡ (standsIn p r && standsIn q (oppositeOf r))
   both-are =
@@ -104,35 +88,29 @@ returns c = rw (sym (both-are (c .before)) ∙ not-true _ (c .if1 .taken))
 
 covers-requires : tie.Need-covers-requires
 covers-requires c κs =
-    let here = c .before .before .before .before in
-    let asked = here .before .before .before .before .before .before .before .pre .0 in
-    (asked .0, few-p (here .before .before .before .before), asked .2, few-here here)
+    let here = c .before .before .before in
+    let asked = here .before .before .before .before .before .pre in
+    (asked .0, few-p here, asked .2, few-here here)
 
 covers-requires-2 : tie.Need-covers-requires-2
 covers-requires-2 c κs =
-    let here = c .before .before .before .before .before in
-    let asked = here .before .before .before .before .before .before .before .pre .0 in
-    (asked .1, few-q (here .before .before), asked .2, few-here here)
+    let here = c .before .before .before .before in
+    let asked = here .before .before .before .before .before .pre in
+    (asked .1, few-q here, asked .2, few-here here)
 
 returns-2 : tie.Need-returns-2
 unfolding joins
 returns-2 c =
     let tests = c .before .before .before in
-    let here = tests .before .before .before in
-    let in-q = here .before .before in
-    let in-p = in-q .before .before in
-    let stand = sym (both-are tests) ∙ not-false _ (c .before .before .if1 .left) in
+    let here = tests .before .before in
     rw (
-      stand,
+      sym (both-are tests) ∙ not-false _ (c .before .before .if1 .left),
       c .before .covers .ensures,
       c .covers2 .ensures,
-      here .line-head3 .ensures,
-      in-q .line-head2 .ensures,
-      in-p .line-head .ensures,
-      in-p .before .opposite .ensures,
-      listed-is (p tests) (few tests .0),
-      listed-is (q tests) (few tests .1),
-      listed-is (line tests) (few tests .2),
+      here .listed-at3 .ensures,
+      here .before .listed-at2 .ensures,
+      here .before .before .listed-at .ensures,
+      here .before .before .before .opposite .ensures,
     )
 
 pub is-join-spec : {M : Type 1} → statement M
@@ -140,12 +118,9 @@ is-join-spec =
     tie.close
     (tie.spec
     opposite-requires
-    line-head-requires
-    cast-in-p
-    line-head-requires-2
-    cast-in-q
-    line-head-requires-3
-    cast-here
+    listed-at-requires
+    listed-at-requires-2
+    listed-at-requires-3
     stands-from-requires
     stands-from-requires-2
     returns

@@ -11,7 +11,7 @@ use Rattle.answers.proofs.Tests.{both-true}
 use Rattle.constraints.specs.declared.layout.LineHead.{LineHead}
 use Rattle.constraints.specs.Layout.{lineHeadAt}
 use Rattle.rules.specs.Joins.{isLower, joins, joinOk}
-use Rattle.certificate.specs.Ready.{linesAt}
+use Rattle.certificate.specs.Frame.{linesAt}
 use borrow.Author.Needs.{needs}
 use Rattle.certificate.proofs.joins.join_ok.Statement.{statement}
 use Rattle.certificate.proofs.joins.join_ok.Tie as tie
@@ -57,24 +57,17 @@ cast-is-join : tie.Need-cast-is-join
 cast-is-join c = search needs
 
 block-at-requires-2 : tie.Need-block-at-requires-2
-block-at-requires-2 c κs = omega (arith, c .before .before .before .before .before .before .before .pre .room, p-lower (c .before))
+block-at-requires-2 c κs = omega (arith, c .before .before .before .before .before .before .before .pre, p-lower (c .before))
 
 block-at-requires-3 : tie.Need-block-at-requires-3
-block-at-requires-3 c κs = omega (arith, c .before .before .before .before .before .before .before .before .pre .room, q-lower (c .before .before))
+block-at-requires-3 c κs = omega (arith, c .before .before .before .before .before .before .before .before .pre, q-lower (c .before .before))
 
 is-join-requires : tie.Need-is-join-requires
 is-join-requires c κs =
     let past = c .before .before .before in
-    let asked = past .before .before .before .before .before .before .pre in
-    let h = past .before .before .before .line-head .result in
-    rw (c .block-at3 .ensures, c .before .block-at2 .ensures, past .before .before .before .before .block-at .ensures) (
-      (omega (arith, asked .room, p-lower past), omega (arith, asked .room, q-lower past), omega (arith, asked .room)),
-      (
-        asked .counts (h .p) (omega (arith, p-lower past)),
-        asked .counts (h .q) (omega (arith, q-lower past)),
-        asked .counts (past .before .before .before .before .before .before .args .i) (omega arith),
-      ),
-    )
+    let room = past .before .before .before .before .before .before .pre in
+    rw (c .block-at3 .ensures, c .before .block-at2 .ensures, past .before .before .before .before .block-at .ensures)
+    (omega (arith, room, p-lower past), omega (arith, room, q-lower past), omega (arith, room))
 
 returns-2 : tie.Need-returns-2
 unfolding joinOk

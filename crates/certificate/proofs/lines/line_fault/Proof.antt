@@ -2,15 +2,11 @@
 -- Assumes nothing.
 use mathlib.Core.Path.{_≡_, sym, _∙_}
 use mathlib.Core.Bool.{true}
-use Prim.Native.Nat.{ℕ, _+_, _<_}
 use native.Mathlib.Omega.{arith}
-use borrow.Author.Count.{below-more}
 use borrow.Author.Tests.{not-true, not-false}
 use denote.Ref.{now}
 use Rattle.rules.specs.Verdict.{shapePasses, lineFault}
-use Rattle.rules.specs.Versions.{version2}
-use Rattle.rules.proofs.LineFaults.{line-kept}
-use Rattle.certificate.proofs.LineFacts.{shape-is, lines-ready}
+use Rattle.certificate.proofs.LineFacts.{shape-is}
 use borrow.Author.Needs.{needs}
 use Rattle.certificate.proofs.lines.line_fault.Statement.{statement}
 use Rattle.certificate.proofs.lines.line_fault.Tie as tie
@@ -33,14 +29,6 @@ shape-told c =
 shape-true : (c : tie.Else1) → let a = c .before .before .before .before .before .before .before .args in shapePasses (now (a .node)) (now (a .cert)) (a .i) ≡ true
 shape-true c = shape-told (c .before) ∙ not-false _ (c .if1 .left)
 
--- rule 16 has passed this line and those before it
-shapes : (c : tie.Else1) → let a = c .before .before .before .before .before .before .before .args in (j : ℕ) → j < a .i + 1 → shapePasses (now (a .node)) (now (a .cert)) j ≡ true
-shapes c =
-    let s = c .before .before .before .before .before .before .before in
-    below-more (λ (j : ℕ). shapePasses (now (s .args .node)) (now (s .args .cert)) j ≡ true) (s .args .i)
-    (λ j l. line-kept version2 (now (s .args .node)) (now (s .args .cert)) j (s .pre .1 .0 .1 j l) .0)
-    (shape-true c)
-
 returns : tie.Need-returns
 unfolding lineFault
 returns c = (
@@ -55,7 +43,7 @@ own-fault-requires c κs =
     let here = read .before in
     let s = here .before .before .before .before in (
       (s .pre .0 .0, here .block-at .ensures, read .line-head .ensures),
-      ((shape-true shaped, lines-ready _ _ _ (s .pre .0 .0) _ (s .pre .1 .0 .0) (shapes shaped)), s .pre .1 .1),
+      ((shape-true shaped, s .pre .1 .0), s .pre .1 .1),
     )
 
 same-length : tie.Need-same-length

@@ -39,7 +39,7 @@ kind-5 c =
 
 -- what rules 20 and 22 count on
 its-checkable : (s : tie.Start) → Checkable (now (s .args .cert)) (s .args .f .start) (s .args .at)
-its-checkable s = line-checkable _ _ _ (s .pre .0 .0) _ _ (s .pre .0 .1) (omega (arith, s .pre .1 .0 .1 .room)) (s .pre .1 .0 .0)
+its-checkable s = line-checkable _ _ _ (s .pre .0 .0) _ _ (s .pre .0 .1) (omega (arith, s .pre .0 .0 .room, s .pre .0 .1, s .pre .1 .0 .1)) (s .pre .1 .0 .0)
 
 equation-passes-requires : tie.Need-equation-passes-requires
 equation-passes-requires c κs = search needs

@@ -1,28 +1,38 @@
--- `certificate::has_empty` meets its contract. The loop's invariant: each line passed has literals.
+-- `certificate::has_empty` meets its contract. The loop's invariant: each line from `left` on has literals.
 -- Assumes nothing.
-use mathlib.Core.Path.{_≡_, sym, _∙_, ap}
+use mathlib.Core.Path.{_≡_, sym, _∙_, ap, subst}
+use mathlib.Core.Logic.{⊎-elim}
 use mathlib.Core.Bool.{true, not}
-use Prim.Native.Nat.{_+_, _-_, _≤_}
+use Prim.Native.Nat.{ℕ, _+_, _-_, _<_, _≤_}
+use native.Mathlib.Nat.{eq-or-lt-of-le}
 use native.Mathlib.Omega.{arith}
 use borrow.Author.Needs.{needs}
 use borrow.Author.Tests.{eq-eqb, ne-eqb}
 use denote.Ref.{now}
-use Rattle.answers.specs.Checks.{every}
-use Rattle.answers.proofs.Every.{every-none, every-more, every-not}
+use Rattle.answers.proofs.Every.{every-not, every-of}
 use Rattle.constraints.specs.declared.layout.LineHead.{LineHead}
 use Rattle.rules.specs.Lines.{hasLiterals}
-use Rattle.certificate.specs.Ready.{linesAt}
+use Rattle.certificate.specs.Frame.{linesAt}
 use Rattle.certificate.proofs.parts.has_empty.Statement.{statement}
 use Rattle.certificate.proofs.parts.has_empty.Tie as tie
 
+-- from one line lower on
+one-more : (P : ℕ → Type 0) (left n : ℕ) → P (left - 1) → ((k : ℕ) → left ≤ k → k < n → P k) → (k : ℕ) → left - 1 ≤ k → k < n → P k
+one-more P left n here rest k l m =
+    ⊎-elim (λ (e : left - 1 ≡ k). subst P e here) (λ (h : left - 1 < k). rest k (omega arith) m) (eq-or-lt-of-le l)
+
 abbrev Inv-loop : tie.InvT-loop
-Inv-loop file lines from n i₀ i = (i ≤ n) × (every (hasLiterals (linesAt file lines) «from») i ≡ true)
+Inv-loop file lines from n left₀ left =
+    (left ≤ n) × ((k : ℕ) → left ≤ k → k < n → hasLiterals (linesAt file lines) «from» k ≡ true)
 
 abbrev μ-loop : tie.MeasureT-loop
-μ-loop file lines from n i₀ i = n - i
+μ-loop file lines from n left₀ left = left
 
 loop-holds : tie.Need-loop-holds Inv-loop μ-loop
-loop-holds c = (search needs, every-none _)
+loop-holds c = (search needs, λ k l m. absurd (omega arith))
+
+sub-left : tie.Need-sub-left Inv-loop μ-loop
+sub-left c = search needs
 
 add-block-at : tie.Need-add-block-at Inv-loop μ-loop
 add-block-at c = search needs
@@ -34,17 +44,14 @@ line-head-requires : tie.Need-line-head-requires Inv-loop μ-loop
 line-head-requires c κs = search needs
 
 -- the count that was read is the line's
-count-is : (c : tie.After-line-head Inv-loop μ-loop) → let at = c .before .before .before in let a = at .before .before .args in linesAt (now (a .file)) (a .lines) (a .from + at .loop .i) .head .count ≡ c .line-head .result .count
+count-is : (c : tie.After-line-head Inv-loop μ-loop) → let at = c .before .before .before in let a = at .before .before .args in linesAt (now (a .file)) (a .lines) (a .from + (at .loop .left - 1)) .head .count ≡ c .line-head .result .count
 count-is c = ap (λ (h : LineHead). h .count) (sym (rw (c .before .block-at .ensures) at (c .line-head .ensures)))
 
 returns : tie.Need-returns Inv-loop μ-loop
 returns c =
     sym
     (ap not
-    (every-not _ _ _ (c .before .before .before .before .loop-test .taken) (ap not (eq-eqb _ _ (count-is (c .before .before) ∙ c .if1 .taken)))))
-
-add-i : tie.Need-add-i Inv-loop μ-loop
-add-i c = search needs
+    (every-not _ _ _ (omega (arith, c .before .before .before .before .loop-test .taken, c .before .before .before .before .before .loop .inv .0)) (ap not (eq-eqb _ _ (count-is (c .before .before) ∙ c .if1 .taken)))))
 
 loop-less : tie.Need-loop-less Inv-loop μ-loop
 loop-less c = search needs
@@ -52,14 +59,13 @@ loop-less c = search needs
 loop-again : tie.Need-loop-again Inv-loop μ-loop
 loop-again c = (
   search needs,
-  every-more _ _ (c .before .before .before .before .before .loop .inv .1)
-      (ap not (ne-eqb _ _ (λ e. c .if1 .left (sym (count-is (c .before .before)) ∙ e)))),
+  one-more _ _ _ (ap not (ne-eqb _ _ (λ e. c .if1 .left (sym (count-is (c .before .before)) ∙ e)))) (c .before .before .before .before .before .loop .inv .1),
 )
 
 returns-2 : tie.Need-returns-2 Inv-loop μ-loop
 returns-2 c =
-    let i-is : c .before .loop .i ≡ c .before .before .before .args .n = omega arith in
-    sym (ap not (rw i-is at (c .before .loop .inv .1)))
+    let at = c .before in
+    sym (ap not (every-of _ _ (λ k l. at .loop .inv .1 k (omega (arith, c .loop-test .left)) l)))
 
 pub has-empty-spec : {M : Type 1} → statement M
 has-empty-spec =
@@ -68,11 +74,11 @@ has-empty-spec =
     Inv-loop
     μ-loop
     loop-holds
+    sub-left
     add-block-at
     block-at-requires
     line-head-requires
     returns
-    add-i
     loop-less
     loop-again
     returns-2)

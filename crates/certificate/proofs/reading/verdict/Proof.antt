@@ -1,57 +1,54 @@
--- `certificate::verdict` meets its contract: the node's refusal, or the verdict on the certificate.
+-- `certificate::verdict` meets its contract: a turn with everything is never unfinished, and its answer is the verdict.
 -- Assumes nothing.
 use mathlib.Core.Path.{_≡_, sym, _∙_, ap}
+use Prim.Native.Nat.{ℕ}
+use native.Mathlib.Nat.{le-refl}
 use native.Mathlib.Omega.{arith}
 use denote.Ref.{now}
-use Rattle.answers.specs.Answer.{accepted, refused, nodeAnswer}
-use Rattle.node.specs.Verdict.{verdictOf as nodeVerdict}
-use Rattle.node.proofs.FileRules.{sizes}
-use Rattle.rules.specs.Verdict.{beforeLines, verdictOf}
-use Rattle.certificate.proofs.Openings.{node-passed}
+use Rattle.answers.specs.Answer.{Answer, CertificateValues, final, unfinished, turnAnswer}
+use Rattle.rules.specs.Turns.{Turn, turnOf}
+use Rattle.rules.specs.Verdict.{verdictOf}
+use Rattle.rules.specs.Versions.{version2}
+use Rattle.rules.proofs.TurnLists.{one-turn}
+use Rattle.certificate.specs.declared.turned.Progress.{Progress}
 use borrow.Author.Needs.{needs}
 use Rattle.certificate.proofs.reading.verdict.Statement.{statement}
 use Rattle.certificate.proofs.reading.verdict.Tie as tie
 
-node-accepted : (c : tie.After-known-told) → nodeVerdict (now (c .before .before .before .before .before .before .args .node)) ≡ accepted (record { streams = c .before .streams .given .0 .0; property = c .before .streams .given .0 .1 .0 })
-node-accepted c = sym (c .before .before .before .verdict .ensures) ∙ ap nodeAnswer (c .before .streams .given .1)
+final-same : (a b : Answer CertificateValues) → final a ≡ final b → a ≡ b
+final-same a b e = cc
 
-node-refused : (c : tie.After-known-told2) → nodeVerdict (now (c .before .before .before .before .before .before .args .node)) ≡ refused (c .before .number .given .0 .0) (c .before .number .given .0 .1 .0)
-node-refused c = sym (c .before .before .before .verdict .ensures) ∙ ap nodeAnswer (c .before .number .given .1)
+not-final : (a : Answer CertificateValues) → unfinished ≡ final a → ⊥
+not-final a e = let z : _≡_ {A = ℕ} 0 1 = cc in omega arith
 
-verdict-requires : tie.Need-verdict-requires
-verdict-requires c κs = search needs
+-- the turn's answer is the verdict
+answer-is : (c : tie.After-turn) → let a = c .before .before .before .before .args in turnAnswer (c .turn .result .verdict) ≡ final (verdictOf version2 (now (a .node)) (now (a .cert)))
+answer-is c =
+    let a = c .before .before .before .before .args in
+    ap (λ (t : Turn). t .answer) (c .turn .ensures)
+    ∙ ap (λ (p : Progress). turnOf version2 (now (a .node)) (now (a .cert)) (p .line) 818 .answer) (c .before .begin .ensures)
+    ∙ one-turn version2 (now (a .node)) (now (a .cert)) 818 (le-refl 818)
 
-enum-known-streams : tie.Need-enum-known-streams
-enum-known-streams c = search needs
+begin-requires : tie.Need-begin-requires
+begin-requires c κs = search needs
 
-cast-certificate-verdict : tie.Need-cast-certificate-verdict
-cast-certificate-verdict c =
-    let passed = node-passed _ _ _ (node-accepted c) in
-    let small = sizes _ (passed .node-rules .file) in
-    omega (arith, passed .property-is, small .property, small .few)
+turn-requires : tie.Need-turn-requires
+turn-requires c κs = search needs
 
-certificate-verdict-requires : tie.Need-certificate-verdict-requires
-certificate-verdict-requires c κs = node-passed _ _ _ (node-accepted c)
+enum-known-answer : tie.Need-enum-known-answer
+enum-known-answer c = search needs
 
-enum-known-number : tie.Need-enum-known-number
-enum-known-number c = search needs
+enum-told : tie.Need-enum-told
+enum-told c = search needs
 
 returns : tie.Need-returns
-unfolding verdictOf beforeLines
-returns c = rw (node-accepted (c .before)) (c .certificate-verdict .ensures)
+returns c =
+    final-same _ _ (sym (ap turnAnswer (c .before .answer .given .1)) ∙ answer-is (c .before .before .before))
 
 returns-2 : tie.Need-returns-2
-unfolding verdictOf beforeLines
-returns-2 c = rw (node-refused c)
+returns-2 c =
+    absurd (not-final _ (sym (ap turnAnswer (c .enum-told .given .1)) ∙ answer-is (c .before .before)))
 
 pub verdict-spec : {M : Type 1} → statement M
 verdict-spec =
-    tie.close
-    (tie.spec
-    verdict-requires
-    enum-known-streams
-    cast-certificate-verdict
-    certificate-verdict-requires
-    enum-known-number
-    returns
-    returns-2)
+    tie.close (tie.spec begin-requires turn-requires enum-known-answer enum-told returns returns-2)

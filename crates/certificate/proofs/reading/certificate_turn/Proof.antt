@@ -1,4 +1,4 @@
--- `certificate::certificate_verdict` meets its contract: the opening's refusal, or the verdict on the lines.
+-- `certificate::certificate_turn` meets its contract: the opening's refusal, or the turn's lines.
 -- Assumes nothing.
 use mathlib.Core.Path.{_≡_, sym, _∙_}
 use denote.Ref.{now}
@@ -12,8 +12,8 @@ use Rattle.certificate.specs.declared.reading.Opened.the-variants.{Passe
 use Rattle.certificate.specs.Checking.{openingOf}
 use Rattle.certificate.proofs.Openings.{counted-streams, node-types, unopened, file-accepted, frame-room, checking}
 use borrow.Author.Needs.{needs}
-use Rattle.certificate.proofs.reading.certificate_verdict.Statement.{statement}
-use Rattle.certificate.proofs.reading.certificate_verdict.Tie as tie
+use Rattle.certificate.proofs.reading.certificate_turn.Statement.{statement}
+use Rattle.certificate.proofs.reading.certificate_turn.Tie as tie
 
 types-of-requires : tie.Need-types-of-requires
 types-of-requires c κs = counted-streams _ _ _ (c .before .before .pre)
@@ -30,23 +30,23 @@ opening-requires c κs = are-types (c .before)
 enum-known-t : tie.Need-enum-known-t
 enum-known-t c = search needs
 
-slice-aggregate-lines-verdict : tie.Need-slice-aggregate-lines-verdict
-slice-aggregate-lines-verdict c = search needs
-
 -- the opening has passed
 passed : (c : tie.After-t) → let a = c .before .before .before .before .before .before .before .args in Passed (c .t .given .0 .0) ≡ openingOf (trailerOf (now (a .cert))) (fileVerdict version2 (now (a .node)) (now (a .cert)))
 passed c = sym (c .t .given .1) ∙ c .before .before .opening .ensures
 
 frame-of-requires : tie.Need-frame-of-requires
 frame-of-requires c κs =
-    let told = c .before .before in
+    let told = c .before in
     frame-room _ _ _ _ _ (told .before .before .before .before .before .before .before .pre) (passed told)
 
-lines-verdict-requires : tie.Need-lines-verdict-requires
-lines-verdict-requires c κs =
+slice-aggregate-lines-turn : tie.Need-slice-aggregate-lines-turn
+slice-aggregate-lines-turn c = search needs
+
+lines-turn-requires : tie.Need-lines-turn-requires
+lines-turn-requires c κs =
     let told = c .before .before .before in
     let read = told .before .before .before .before in
-    (checking _ _ _ _ _ (read .before .before .before .pre) (passed told) _ (c .frame-of .ensures), are-types read)
+    (checking _ _ _ _ _ (read .before .before .before .pre) (passed told) _ (c .before .frame-of .ensures), are-types read)
 
 file-is : (c : tie.After-t) → let a = c .before .before .before .before .before .before .before .args in fileVerdict version2 (now (a .node)) (now (a .cert)) ≡ accepted tt
 file-is c = file-accepted _ _ _ _ _ (c .before .before .before .before .before .before .before .pre) (passed c)
@@ -57,23 +57,27 @@ refused-is c = unopened _ _ _ _ (sym (c .number .given .1) ∙ c .before .before
 enum-known-number : tie.Need-enum-known-number
 enum-known-number c = search needs
 
+refused-requires : tie.Need-refused-requires
+refused-requires c κs = search needs
+
 returns : tie.Need-returns
-returns c = rw (file-is (c .before .before .before .before)) (c .lines-verdict .ensures)
+returns c = rw (file-is (c .before .before .before .before)) (c .lines-turn .ensures)
 
 returns-2 : tie.Need-returns-2
-returns-2 c = rw (refused-is (c .before))
+returns-2 c = rw (refused-is (c .before .before)) (c .refused .ensures)
 
-pub certificate-verdict-spec : {M : Type 1} → statement M
-certificate-verdict-spec =
+pub certificate-turn-spec : {M : Type 1} → statement M
+certificate-turn-spec =
     tie.close
     (tie.spec
     types-of-requires
     slice-aggregate-opening
     opening-requires
     enum-known-t
-    slice-aggregate-lines-verdict
     frame-of-requires
-    lines-verdict-requires
+    slice-aggregate-lines-turn
+    lines-turn-requires
     enum-known-number
+    refused-requires
     returns
     returns-2)
