@@ -2,18 +2,20 @@
 -- Assumes nothing.
 use mathlib.Core.Path.{_≡_, refl, ap}
 use mathlib.Core.Bool.{true, false≢true}
-use Rattle.answers.specs.Answer.{Answer, accepted, refused, isAccepted}
+use Rattle.answers.specs.Answer.{Answer, accepted, refused, isAccepted, CertificateValues, TurnAnswer, final, unfinished}
 use Rattle.node.specs.Verdict.{verdictOf as nodeVerdict}
+use Rattle.rules.specs.Turns.{begunLine, turnOf, lineAfter}
 use Rattle.rules.specs.Verdict.{verdictOf}
 use Rattle.rules.specs.Versions.{version2}
+use Rattle.rules.proofs.TurnLists.{every-turns-agree}
 use Rattle.session.proofs.Sessions.{sessions-exact}
 use Rattle.node.proofs.Outcomes.{keeps-accepted}
 use Rattle.ranges.specs.Listing.{listingOf}
 use Rattle.ranges.proofs.Outcomes.{listed-keeps}
 use Rattle.ranges.proofs.Sessions.{sessions-inside}
-use Rattle.soundness.proofs.Demands.{demand-3}
-use Rattle.capi.specs.Answers.{toldNode}
-use Rattle.capi.specs.Theorems.{ExportedSessionsExact, ExportedDemand3, ExportedSessionsInside}
+use Rattle.soundness.proofs.Demands.{demand-3, turns-demand-3}
+use Rattle.capi.specs.Answers.{toldNode, toldCertificate, toldAnswer, toldTurn}
+use Rattle.capi.specs.Theorems.{ExportedSessionsExact, ExportedDemand3, ExportedTurnsDemand3, ExportedSessionsInside}
 use Rattle.capi.proofs.Zero.{zero}
 
 accepted-with : {A : Type 0} (a : Answer A) → isAccepted a ≡ true → (v : A) × (a ≡ accepted v)
@@ -31,6 +33,28 @@ exported-demand-3 node cert told before events =
     let values = accepted-with (verdictOf version2 node cert) (zero .certificate node cert told) in
     let demanded = demand-3 node cert (values .0) (values .1) before events in
     (ap (λ a. toldNode a .number) (demanded .begins), demanded)
+
+-- a final answer is told as the one call's
+told-final : (a : TurnAnswer) (verdict : Answer CertificateValues) → ((b : Answer CertificateValues) → a ≡ final b → b ≡ verdict) → (toldAnswer a .number ≡ 256 → ⊥) → toldAnswer a ≡ toldCertificate verdict
+unfolding toldAnswer
+told-final (final b) verdict same left = ap toldCertificate (same b refl)
+told-final unfinished verdict same left = absurd (left refl)
+
+pub exported-turns-demand-3 : ExportedTurnsDemand3
+unfolding toldTurn toldNode
+exported-turns-demand-3 node cert quotas quota =
+    let line = lineAfter version2 node cert begunLine quotas in
+    let agree = every-turns-agree version2 node cert quotas quota in
+    record {
+      final-answer = told-final (turnOf version2 node cert line quota .answer) (verdictOf version2 node cert) (λ a e. agree a e .as-one-call);
+      demanded = λ told.
+          let values = zero .turn node cert line quota told in (
+            agree (accepted (values .0)) (values .1) .adds refl,
+            λ before events.
+                let demanded = turns-demand-3 node cert quotas quota (values .0) (values .1) before events in
+                (ap (λ a. toldNode a .number) (demanded .begins), demanded),
+          );
+    }
 
 pub exported-sessions-inside : ExportedSessionsInside
 unfolding toldNode

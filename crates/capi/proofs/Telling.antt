@@ -7,9 +7,9 @@ use native.Mathlib.Omega.{arith}
 use lib.ListN.{getD}
 use Rattle.answers.specs.declared.Place.{Place}
 use Rattle.answers.specs.declared.Place.the-variants.{File, Record, Constraint, Line, Base, Step}
-use Rattle.answers.specs.Answer.{accepted, refused, NodeValues, CertificateValues}
+use Rattle.answers.specs.Answer.{Answer, accepted, refused, NodeValues, CertificateValues, TurnAnswer, final, unfinished}
 use Rattle.capi.specs.declared.told.Told.{Told}
-use Rattle.capi.specs.Answers.{placeNumber, placeIndex, toldAccepted, toldOf, toldRefused, toldNode, toldCertificate, toldPlain}
+use Rattle.capi.specs.Answers.{placeNumber, placeIndex, toldAccepted, toldOf, toldRefused, toldNode, toldCertificate, toldPlain, toldUnfinished, toldAnswer}
 use Rattle.capi.specs.Theorems.{Tells, NumbersTell}
 
 -- the place that a number and an index tell
@@ -47,11 +47,30 @@ module _ {A : Type 0} (values : A → Told) (no-place : (a : A) → values a .pl
   tells (refused n p) (accepted b) e = absurd (apart b n p (sym e))
   tells (refused n p) (refused m q) e = let s = refusal-tells n m p q e in ap₂ refused (s .0) (s .1)
 
+-- a final answer is accepted, and 0, or has a place; 256 has none
+apart-unfinished : (a : Answer CertificateValues) → toldCertificate a ≡ toldUnfinished → ⊥
+unfolding toldCertificate
+apart-unfinished (accepted v) e = let z : _≡_ {A = ℕ} 0 256 = ap (λ (t : Told). t .number) e in omega arith
+apart-unfinished (refused n p) e = place-is-some p (ap (λ (t : Told). t .place) e)
+
+turn-tells : Tells toldCertificate → (a b : TurnAnswer) → toldAnswer a ≡ toldAnswer b → a ≡ b
+unfolding toldAnswer
+turn-tells same (final a) (final b) e = ap final (same a b e)
+turn-tells same (final a) unfinished e = absurd (apart-unfinished a e)
+turn-tells same unfinished (final b) e = absurd (apart-unfinished b (sym e))
+turn-tells same unfinished unfinished e = refl
+
+certificate-tells : Tells toldCertificate
+unfolding toldCertificate
+certificate-tells =
+    tells (λ (v : CertificateValues). toldAccepted (v .depth) (v .base) (v .step)) (λ _. refl) (λ a b e i. record { depth = e i .first; base = e i .second; step = e i .third })
+
 pub numbers-tell : NumbersTell
-unfolding toldNode toldCertificate toldPlain
+unfolding toldNode toldPlain
 numbers-tell =
     record {
       node = tells (λ (v : NodeValues). toldAccepted (v .streams) (v .property) 0) (λ _. refl) (λ a b e i. record { streams = e i .first; property = e i .second });
-      certificate = tells (λ (v : CertificateValues). toldAccepted (v .depth) (v .base) (v .step)) (λ _. refl) (λ a b e i. record { depth = e i .first; base = e i .second; step = e i .third });
+      certificate = certificate-tells;
+      turn = turn-tells certificate-tells;
       plain = tells (λ (_ : Unit {0}). toldAccepted 0 0 0) (λ _. refl) (λ a b e. refl);
     }

@@ -2,8 +2,10 @@
 use Prim.Native.Nat.{ℕ}
 use Rattle.answers.specs.declared.Place.{Place}
 use Rattle.answers.specs.declared.Place.the-variants.{File, Record, Constraint, Line, Base, Step}
-use Rattle.answers.specs.Answer.{Answer, accepted, refused, NodeValues, CertificateValues}
+use Rattle.answers.specs.Answer.{Answer, accepted, refused, NodeValues, CertificateValues, TurnAnswer, final, unfinished}
+use Rattle.rules.specs.Turns.{Turn}
 use Rattle.capi.specs.declared.told.Told.{Told}
+use Rattle.capi.specs.declared.turns.ToldTurn.{ToldTurn}
 
 abbrev pub placeNumber : Place → ℕ
 placeNumber File = 1
@@ -46,3 +48,16 @@ toldCertificate answer = toldOf (λ v. toldAccepted (v .depth) (v .base) (v .ste
 -- that to a trial, a commit, the old call and a table of ranges: nothing
 unfoldable pub toldPlain : Answer (Unit {0}) → Told
 toldPlain answer = toldOf (λ _. toldAccepted 0 0 0) answer
+
+-- lines are left: 256, which is no refusal's number
+abbrev pub toldUnfinished : Told
+toldUnfinished = record { number = 256; place = 0; index = 0; first = 0; second = 0; third = 0 }
+
+-- a turn's answer: a final one is told as a certificate's
+unfoldable pub toldAnswer : TurnAnswer → Told
+toldAnswer (final answer) = toldCertificate answer
+toldAnswer unfinished = toldUnfinished
+
+-- a turn: its answer, the record and the number checked
+unfoldable pub toldTurn : Turn → ToldTurn
+toldTurn t = record { answer = toldAnswer (t .answer); progress = record { line = t .line }; checked = t .checked }

@@ -1,10 +1,10 @@
 -- What is proved of the exported calls, stated without the proofs.
-use Prim.Native.Nat.{ℕ}
+use Prim.Native.Nat.{ℕ, _+_}
 use mathlib.Core.Path.{_≡_}
 use mathlib.Core.Bool.{true}
 use mathlib.Core.List.{List}
 use lib.IntN.{ℤ}
-use Rattle.answers.specs.Answer.{Answer, isAccepted}
+use Rattle.answers.specs.Answer.{Answer, accepted, isAccepted, CertificateValues, TurnAnswer, final}
 use Rattle.node.specs.Reads.{All}
 use Rattle.node.specs.Verdict.{verdictOf as nodeVerdict}
 use Rattle.session.specs.declared.Session.{Session}
@@ -12,13 +12,14 @@ use Rattle.session.specs.Events.{Event, begunRun, afterEvents, lastRun, runs}
 use Rattle.session.specs.Instants.{answerOf, commitAnswer}
 use Rattle.session.specs.Records.{begunOf}
 use Rattle.session.specs.Theorems.{RunShows, ExactNext}
-use Rattle.rules.specs.Verdict.{verdictOf}
+use Rattle.rules.specs.Turns.{begunLine, turnOf, lineAfter, checkedIn}
+use Rattle.rules.specs.Verdict.{linesOf, verdictOf}
 use Rattle.rules.specs.Versions.{version2}
 use Rattle.ranges.specs.Listing.{listingOf}
 use Rattle.ranges.specs.Theorems.{StaysInside}
 use Rattle.soundness.specs.Demands.{Demanded}
 use Rattle.capi.specs.declared.told.Told.{Told}
-use Rattle.capi.specs.Answers.{toldNode, toldCertificate, toldPlain}
+use Rattle.capi.specs.Answers.{toldNode, toldCertificate, toldPlain, toldAnswer, toldTurn}
 
 -- no two answers have the same numbers
 abbrev pub Tells : {A : Type 0} → (Answer A → Told) → Type 0
@@ -27,12 +28,14 @@ Tells {A} told = (a b : Answer A) → told a ≡ told b → a ≡ b
 pub record NumbersTell : Type 0 where
   pub node : Tells toldNode
   pub certificate : Tells toldCertificate
+  pub turn : (a b : TurnAnswer) → toldAnswer a ≡ toldAnswer b → a ≡ b
   pub plain : Tells toldPlain
 
 -- number 0 says accepted
 pub record ZeroAccepts : Type 0 where
   pub node : (file : List ℕ) → toldNode (nodeVerdict file) .number ≡ 0 → isAccepted (nodeVerdict file) ≡ true
   pub certificate : (node cert : List ℕ) → toldCertificate (verdictOf version2 node cert) .number ≡ 0 → isAccepted (verdictOf version2 node cert) ≡ true
+  pub turn : (node cert : List ℕ) (line quota : ℕ) → toldTurn (turnOf version2 node cert line quota) .answer .number ≡ 0 → (v : CertificateValues) × (turnOf version2 node cert line quota .answer ≡ final (accepted v))
   -- of a trial and of the old call
   pub instant : (s : Session) (inputs : List ℤ) (room : ℕ) → toldPlain (answerOf s inputs room) .number ≡ 0 → isAccepted (answerOf s inputs room) ≡ true
   pub commit : (s : Session) → toldPlain (commitAnswer s) .number ≡ 0 → isAccepted (commitAnswer s) ≡ true
@@ -53,6 +56,21 @@ ExportedDemand3 =
     (node cert : List ℕ) → toldCertificate (verdictOf version2 node cert) .number ≡ 0
     → (before : Session) (events : List Event)
     → (toldNode (nodeVerdict node) .number ≡ 0) × Demanded node before events
+
+-- the exported turns on the same two files, each of the record that the one before gave, the first of a begun one: an answer that is not
+-- "unfinished", which is 256, is told as that of one call; and one with number 0 is an acceptance in demand 3, with all lines checked
+pub record ExportedTurns (node cert : List ℕ) (quotas : List ℕ) (quota : ℕ) : Type 0 where
+  pub final-answer :
+      let t = turnOf version2 node cert (lineAfter version2 node cert begunLine quotas) quota in
+      (toldTurn t .answer .number ≡ 256 → ⊥) → toldTurn t .answer ≡ toldCertificate (verdictOf version2 node cert)
+  pub demanded :
+      let t = turnOf version2 node cert (lineAfter version2 node cert begunLine quotas) quota in
+      toldTurn t .answer .number ≡ 0
+      → (checkedIn version2 node cert begunLine quotas + toldTurn t .checked ≡ linesOf cert)
+      × ((before : Session) (events : List Event) → (toldNode (nodeVerdict node) .number ≡ 0) × Demanded node before events)
+
+abbrev pub ExportedTurnsDemand3 : Type 0
+ExportedTurnsDemand3 = (node cert : List ℕ) (quotas : List ℕ) (quota : ℕ) → ExportedTurns node cert quotas quota
 
 -- listed nodes by the exported calls: the beginning's number is 0 too
 abbrev pub ExportedSessionsInside : Type 0

@@ -2,6 +2,7 @@
 mod files;
 mod lent;
 mod told;
+mod turns;
 
 pub use files::conuhawe_certificate_note;
 pub use files::conuhawe_check;
@@ -13,3 +14,6 @@ pub use lent::conuhawe_commit;
 pub use lent::conuhawe_instant;
 pub use lent::conuhawe_trial;
 pub use told::Told;
+pub use turns::ToldTurn;
+pub use turns::conuhawe_turn;
+pub use turns::conuhawe_turns_begin;

@@ -4,9 +4,10 @@ use answers::InstantVerdict;
 use answers::ListedVerdict;
 use answers::NodeVerdict;
 use answers::Place;
+use answers::TurnVerdict;
 ghost use mathlib.Core.Path.{_≡_};
-ghost use Rattle.answers.specs.Answer.{nodeAnswer, certificateAnswer, instantAnswer, listedAnswer};
-ghost use Rattle.capi.specs.Answers.{placeNumber, placeIndex, toldAccepted, toldRefused, toldNode, toldCertificate, toldPlain};
+ghost use Rattle.answers.specs.Answer.{nodeAnswer, certificateAnswer, turnAnswer, instantAnswer, listedAnswer};
+ghost use Rattle.capi.specs.Answers.{placeNumber, placeIndex, toldAccepted, toldRefused, toldNode, toldCertificate, toldPlain, toldUnfinished, toldAnswer};
 
 // An answer in numbers; specs/Answers.antt gives each.
 #[repr(C)]
@@ -86,6 +87,24 @@ pub fn told_certificate(verdict: CertificateVerdict) -> Told
     match verdict {
         CertificateVerdict::Accepted { depth, base, step } => accepted(depth, base, step),
         CertificateVerdict::Refused(number, place) => refused(number, place),
+    }
+}
+
+// No place and no values, as an accepted answer has them.
+fn unfinished() -> Told
+    ensures { λ r. ⌜ r ≡ toldUnfinished ⌝ }
+{
+    let mut t = accepted(0, 0, 0);
+    t.number = 256;
+    t
+}
+
+pub fn told_answer(verdict: TurnVerdict) -> Told
+    ensures { λ r. ⌜ r ≡ toldAnswer (turnAnswer verdict) ⌝ }
+{
+    match verdict {
+        TurnVerdict::Final(answer) => told_certificate(answer),
+        TurnVerdict::Unfinished => unfinished(),
     }
 }
 

@@ -1,6 +1,6 @@
 -- Demand 3 from its parts: one solution, a sound certificate, exact sessions.
 -- Assumes nothing.
-use mathlib.Core.Path.{_≡_, _∙_, subst}
+use mathlib.Core.Path.{_≡_, sym, _∙_, subst}
 use mathlib.Core.List.{List}
 use Prim.Native.Nat.{ℕ}
 use native.Mathlib.Omega.{arith}
@@ -10,6 +10,7 @@ use Rattle.node.specs.Verdict.{verdictOf as nodeVerdict}
 use Rattle.node.proofs.FileRules.{sizes}
 use Rattle.node.proofs.Outcomes.{accepted-keeps as node-keeps, keeps-accepted}
 use Rattle.rules.proofs.Outcomes.{accepted-keeps}
+use Rattle.rules.proofs.TurnLists.{every-turns-agree}
 use Rattle.streams.proofs.AcceptedNodes.{one-solution}
 use Rattle.streams.proofs.Reading.{all-map}
 use Rattle.session.specs.Events.{Run, begunRun, runs}
@@ -18,7 +19,7 @@ use Rattle.session.specs.Records.{begunOf}
 use Rattle.session.specs.Theorems.{Shows, RunShows}
 use Rattle.session.proofs.OldCalls.{oldCalls, only-run, only-shown}
 use Rattle.session.proofs.Sessions.{sessions-exact}
-use Rattle.soundness.specs.Demands.{ShowsProperty, RunProperty, DemandFor, Demand3, CallsDemandFor}
+use Rattle.soundness.specs.Demands.{ShowsProperty, RunProperty, DemandFor, Demand3, TurnsDemandFor, TurnsDemand3, CallsDemandFor}
 use Rattle.rules.specs.Theorems.{PropertyHolds, Covers}
 use Rattle.rules.specs.Versions.{Version, version2}
 use Rattle.rules.proofs.Soundness.{current-covers}
@@ -56,6 +57,14 @@ demand-for version covers node cert v e before events =
 
 pub demand-3 : Demand3
 demand-3 = demand-for version2 current-covers
+
+-- the final answer of turns is that of one call
+pub turns-demand-for : (version : Version) → Covers version → TurnsDemandFor version
+turns-demand-for version covers node cert quotas quota v e =
+    demand-for version covers node cert v (sym (every-turns-agree version node cert quotas quota (accepted v) e .as-one-call))
+
+pub turns-demand-3 : TurnsDemand3
+turns-demand-3 = turns-demand-for version2 current-covers
 
 -- a list of the old call alone is a case
 pub calls-demand-for : (version : Version) → Covers version → CallsDemandFor version

@@ -4,10 +4,11 @@ use mathlib.Core.Path.{_≡_}
 use mathlib.Core.List.{List}
 use lib.IntN.{pos}
 use lib.ListN.{length}
-use Rattle.answers.specs.Answer.{accepted, CertificateValues}
+use Rattle.answers.specs.Answer.{accepted, CertificateValues, final}
 use Rattle.node.specs.Layout.{streamsOf, propertyOf}
 use Rattle.node.specs.Reads.{All}
 use Rattle.node.specs.Verdict.{verdictOf as nodeVerdict}
+use Rattle.rules.specs.Turns.{begunLine, turnOf, lineAfter}
 use Rattle.rules.specs.Verdict.{verdictOf}
 use Rattle.rules.specs.Versions.{Version, version2}
 use Rattle.streams.specs.Theorems.{OneSolution}
@@ -50,6 +51,17 @@ DemandFor version =
 -- of the version that is checked
 abbrev pub Demand3 : Type 0
 Demand3 = DemandFor version2
+
+-- "Only such an acceptance, or that of one call, is one in the demands.": that of a turn on these two files, with any quota, of a record that was
+-- begun and that a turn on them for each of any quotas has handed on
+abbrev pub TurnsDemandFor : Version → Type 0
+TurnsDemandFor version =
+    (node cert : List ℕ) (quotas : List ℕ) (quota : ℕ) (v : CertificateValues)
+    → turnOf version node cert (lineAfter version node cert begunLine quotas) quota .answer ≡ final (accepted v)
+    → (before : Session) (events : List Event) → Demanded node before events
+
+abbrev pub TurnsDemand3 : Type 0
+TurnsDemand3 = TurnsDemandFor version2
 
 -- the same of the old call alone, as it stood before trials
 pub record CallsDemanded (node : List ℕ) (before : Session) (calls : List Call) : Type 0 where
