@@ -714,12 +714,17 @@ def of_version_1():
     assert [name for _, name, _, _ in sorted(CASES, key=lambda c: c[1]) if name.startswith(PREFIX)] == kept
 
 
-def main():
+def all_cases():
+    """Fills CASES, and NODES with the nodes that they are for."""
     for cases in (whole_proofs, allowed, of_the_node, of_the_file, of_constraints, of_any_kind, of_equations, of_properties,
                   of_joins, of_arithmetic, of_cuts, whole_proofs_multiplied, of_factors, in_another_order, of_another_order,
                   factors_reversed, of_lessers, lessers_in_another_order, of_parts, of_the_window, false_turns,
                   of_version_1):
         cases()
+
+
+def main():
+    all_cases()
     nodes = {f"{name}.node": data for name, data in NODES.items()}
     write_data("check_pairs", {**nodes, **{name: data for _, name, data, _ in CASES}}, kept=archived())
     write_lines("check_pairs", "args", [name for pair in CASES for name in pair[:2]])
@@ -730,4 +735,5 @@ def main():
     print(f"{len(CASES)} pairs")
 
 
-main()
+if __name__ == "__main__":
+    main()

@@ -1,11 +1,11 @@
-// Signed numbers of 64 bits in a row, little-endian, as files of the programs have them.
+// Numbers of 64 bits in a row, little-endian, as files of the programs have them.
 mod bytes;
 
 use bytes::u64_at;
 use fields::i64_of;
 ghost use mathlib.Core.Path.{_≡_};
 ghost use lib.ListN.{length};
-ghost use Rattle.numbers.specs.Numbers.{numberAt, numbersFrom};
+ghost use Rattle.numbers.specs.Numbers.{numberAt, unsignedAt, numbersFrom};
 
 // Number i of the bytes; 0 where they have none.
 fn number_at(bytes: &[u8], i: usize) -> i64
@@ -13,6 +13,17 @@ fn number_at(bytes: &[u8], i: usize) -> i64
 {
     if i < bytes.len() / 8 {
         i64_of(u64_at(bytes, 8 * i))
+    } else {
+        0
+    }
+}
+
+// The same unsigned.
+pub fn unsigned_at(bytes: &[u8], i: usize) -> u64
+    ensures { λ r. ⌜ r ≡ unsignedAt (now (bytes .entry)) i ⌝ }
+{
+    if i < bytes.len() / 8 {
+        u64_at(bytes, 8 * i)
     } else {
         0
     }
