@@ -1,18 +1,18 @@
 //! The certificate checker: refusals 11 to 22, after 1 to 8 and 23 on the
-//! node file.
+//! node file, in one call or in turns.
 
 pub mod constraint;
 pub mod equation;
+mod files;
 mod layout;
 mod line;
 pub mod literal;
 mod multiple;
+pub mod turns;
 
-use crate::answer::{Accepted, Place, Refusal, Verdict};
-use crate::node;
-use constraint::Constraint;
+use crate::answer::{Place, Verdict};
+use files::Files;
 use layout::Layout;
-use line::Checker;
 
 /// Length of a constraint and of a line.
 pub const BLOCK: usize = 80;
@@ -44,24 +44,12 @@ impl Part {
 /// 01: "Checks run down the table, each over all its records first; lines are
 /// taken one at a time, 16 before its kind's number. Certificate checks
 /// follow 1 to 8. The first failure is given." They follow 23 too.
+///
+/// It is one turn from a begun record with a quota of all lines.
 pub fn check(node_file: &[u8], certificate_file: &[u8]) -> Verdict {
-    let node = node::read(node_file)?;
-    let layout = Layout::read(certificate_file)?;
-    let constraints = Constraint::read_all(&node, layout.depth, layout.constraints)?;
-    let mut checker = Checker::new(&node, &layout, &constraints);
-    let base_ends = checker.check_part(Part::Base, 0, layout.base)?;
-    let step_ends = checker.check_part(Part::Step, layout.base.len(), layout.step)?;
-    for (part, ends) in [(Part::Base, base_ends), (Part::Step, step_ends)] {
-        // 01: "Each part has some line without literals."
-        if !ends {
-            return Err(Refusal::new(21, part.place()));
-        }
-    }
-    Ok(Accepted {
-        depth: layout.depth,
-        base: layout.base_count,
-        step: layout.step_count,
-    })
+    let files = Files::read(node_file, certificate_file)?;
+    files.check_lines(0..files.line_count())?;
+    files.conclude()
 }
 
 /// 01: "note (handed back likewise, empty on 11 to 14)": it depends on the

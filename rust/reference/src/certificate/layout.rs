@@ -1,7 +1,8 @@
 //! The certificate file cut into its parts: refusals 11 to 14.
 
-use super::{BLOCK, MAX_DEPTH};
+use super::{Part, BLOCK, MAX_DEPTH};
 use crate::answer::Refusal;
+use std::ops::Range;
 
 /// 02: "Certificate version becomes 2".
 const VERSION: u8 = 2;
@@ -26,10 +27,8 @@ pub struct Layout<'a> {
     pub step_count: u16,
     /// The constraints.
     pub constraints: &'a [[u8; BLOCK]],
-    /// The base lines.
-    pub base: &'a [[u8; BLOCK]],
-    /// The step lines.
-    pub step: &'a [[u8; BLOCK]],
+    /// The lines, those of the base and then those of the step.
+    pub lines: &'a [[u8; BLOCK]],
 }
 
 impl<'a> Layout<'a> {
@@ -44,6 +43,24 @@ impl<'a> Layout<'a> {
             return Err(Refusal::file(13));
         }
         trailer.cut(front).ok_or(Refusal::file(14))
+    }
+
+    /// The numbers of a part's lines.
+    pub fn lines_of(&self, part: Part) -> Range<usize> {
+        let base = usize::from(self.base_count);
+        match part {
+            Part::Base => 0..base,
+            Part::Step => base..self.lines.len(),
+        }
+    }
+
+    /// The part in which a line stands.
+    pub fn part_of(&self, number: usize) -> Part {
+        if self.lines_of(Part::Base).contains(&number) {
+            Part::Base
+        } else {
+            Part::Step
+        }
     }
 }
 
@@ -86,17 +103,15 @@ impl Trailer {
         let start = front.len().checked_sub(blocks)?;
         let (note, blocks) = front.split_at_checked(start)?;
         let (blocks, _) = blocks.as_chunks::<BLOCK>();
-        let [constraints, base, _] = counts;
+        let [constraints, _, _] = counts;
         let (constraints, lines) = blocks.split_at_checked(constraints)?;
-        let (base, step) = lines.split_at_checked(base)?;
         Some(Layout {
             note,
             depth: self.depth,
             base_count: self.base,
             step_count: self.step,
             constraints,
-            base,
-            step,
+            lines,
         })
     }
 }

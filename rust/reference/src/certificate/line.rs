@@ -9,6 +9,7 @@ use super::literal::{Atom, Literal};
 use super::{Part, BLOCK, MAX_DEPTH};
 use crate::answer::{Place, Refusal};
 use crate::node::{Node, Type, MAX_STREAMS};
+use std::ops::Range;
 
 /// 01: "literal count byte (0 to 12)".
 const MAX_LITERALS: usize = 12;
@@ -54,12 +55,32 @@ impl Kind {
 
 /// The literals of a line, a clause.
 #[derive(Clone, Copy, Debug)]
-struct Clause {
+pub struct Clause {
     literals: [Literal; MAX_LITERALS],
+    /// At most twelve.
     count: usize,
 }
 
 impl Clause {
+    /// The literals that a line lists, whatever else it holds. A line that no
+    /// turn has checked may count more than there is room for: it lists twelve.
+    pub fn decode(block: &[u8; BLOCK]) -> Self {
+        let [_, count, _, _, _, _, _, _, rest @ ..] = block;
+        let mut clause = Clause {
+            literals: [Literal::from_number(0); MAX_LITERALS],
+            count: usize::from(*count).min(MAX_LITERALS),
+        };
+        for (slot, bytes) in clause.literals.iter_mut().zip(rest.as_chunks().0) {
+            *slot = Literal::from_number(u16::from_le_bytes(*bytes));
+        }
+        clause
+    }
+
+    /// Whether there are no literals.
+    pub fn is_empty(&self) -> bool {
+        self.count == 0
+    }
+
     fn literals(&self) -> &[Literal] {
         &self.literals[..self.count]
     }
@@ -92,21 +113,18 @@ impl Line {
     /// field is against refusal 16.
     fn decode(block: &[u8; BLOCK]) -> Option<Self> {
         let [kind, count, p0, p1, q0, q1, r0, r1, rest @ ..] = block;
-        let (literals, multipliers) = rest.split_at(2 * MAX_LITERALS);
+        if usize::from(*count) > MAX_LITERALS {
+            return None;
+        }
         let mut line = Line {
             kind: Kind::decode(*kind)?,
             p: u16::from_le_bytes([*p0, *p1]),
             q: u16::from_le_bytes([*q0, *q1]),
             r: u16::from_le_bytes([*r0, *r1]),
-            clause: Clause {
-                literals: [Literal::from_number(0); MAX_LITERALS],
-                count: usize::from(*count),
-            },
+            clause: Clause::decode(block),
             multipliers: [0; MAX_LITERALS],
         };
-        for (slot, bytes) in line.clause.literals.iter_mut().zip(literals.as_chunks().0) {
-            *slot = Literal::from_number(u16::from_le_bytes(*bytes));
-        }
+        let multipliers = rest.split_at(2 * MAX_LITERALS).1;
         for (slot, bytes) in line.multipliers.iter_mut().zip(multipliers.as_chunks().0) {
             *slot = u32::from_le_bytes(*bytes);
         }
@@ -125,8 +143,7 @@ impl Line {
             Kind::Arithmetic => (self.p == 0 && self.q == 0 && self.r == 0, count),
             Kind::Cut => (self.p == 0 && self.q == 0, count),
         };
-        count <= MAX_LITERALS
-            && fields_right
+        fields_right
             && self.clause.literals[count..]
                 .iter()
                 .all(|l| l.number() == 0)
@@ -156,10 +173,8 @@ fn is_multiplier(multiplier: &u32) -> bool {
 /// The checker of lines, with what the lines speak of.
 pub struct Checker<'a> {
     node: &'a Node<'a>,
-    depth: u8,
+    layout: &'a Layout<'a>,
     constraints: &'a [Constraint],
-    /// The lines so far of the part being checked.
-    clauses: Vec<Clause>,
     /// The sum of coefficients at each variable, of kinds 4 and 5. It is all
     /// zero between lines: a line that leaves a sum other than 0 is refused, and no line
     /// follows a refused one.
@@ -167,38 +182,28 @@ pub struct Checker<'a> {
 }
 
 impl<'a> Checker<'a> {
-    /// A checker before the first line.
-    pub fn new(node: &'a Node<'a>, layout: &Layout, constraints: &'a [Constraint]) -> Self {
-        let longest = layout.base.len().max(layout.step.len());
+    /// A checker before its first line.
+    pub fn new(node: &'a Node<'a>, layout: &'a Layout<'a>, constraints: &'a [Constraint]) -> Self {
         Checker {
             node,
-            depth: layout.depth,
+            layout,
             constraints,
-            clauses: Vec::with_capacity(longest),
             sums: [0; VARIABLES],
         }
     }
 
-    /// Checks a part's lines, the first of which has the number `first`.
-    /// Tells whether some line has no literals.
-    pub fn check_part(
-        &mut self,
-        part: Part,
-        first: usize,
-        lines: &[[u8; BLOCK]],
-    ) -> Result<bool, Refusal> {
-        self.clauses.clear();
-        let mut ends = false;
-        for (number, block) in (first..).zip(lines) {
+    /// Checks these lines of the certificate in order, up to the first that is
+    /// refused. 01: "lines are taken one at a time, 16 before its kind's number."
+    pub fn check_lines(mut self, numbers: Range<usize>) -> Result<(), Refusal> {
+        for number in numbers {
             let refuse = |refusal| Refusal::new(refusal, Place::Line(number));
+            let block = &self.layout.lines[number];
             let line = self.read_line(block).ok_or(refuse(16))?;
-            if !self.is_justified(&line, part, first) {
+            if !self.is_justified(&line, number) {
                 return Err(refuse(line.kind.refusal()));
             }
-            ends |= line.clause.count == 0;
-            self.clauses.push(line.clause);
         }
-        Ok(ends)
+        Ok(())
     }
 
     /// The line, or nothing if it is against refusal 16: "kind, count, listed
@@ -215,17 +220,20 @@ impl<'a> Checker<'a> {
         match literal.atom() {
             Atom::Constraint(i) => i < self.constraints.len(),
             Atom::Stream { stream, offset } => {
-                offset <= u16::from(self.depth) && self.node.type_of(stream) == Some(Type::Bool)
+                offset <= u16::from(self.layout.depth)
+                    && self.node.type_of(stream) == Some(Type::Bool)
             }
         }
     }
 
-    /// Whether the line is as its kind says.
-    fn is_justified(&mut self, line: &Line, part: Part, first: usize) -> bool {
+    /// Whether the line of this number is as its kind says.
+    fn is_justified(&mut self, line: &Line, number: usize) -> bool {
+        let part = self.layout.part_of(number);
+        let lower = self.layout.lines_of(part).start..number;
         match line.kind {
             Kind::Equation => self.is_equation(line, part),
             Kind::Property => self.is_property(line, part),
-            Kind::Join => self.is_join(line, first),
+            Kind::Join => self.is_join(line, &lower),
             Kind::Arithmetic => self.is_arithmetic(line),
             Kind::Cut => self.is_cut(line),
         }
@@ -237,7 +245,7 @@ impl<'a> Checker<'a> {
     /// "Literals equal the list below in its order, constraints unnegated";
     /// 02 says how these match.
     fn is_equation(&self, line: &Line, part: Part) -> bool {
-        let allowed = |q: &u8| *q <= self.depth;
+        let allowed = |q: &u8| *q <= self.layout.depth;
         let Some(offset) = u8::try_from(line.q).ok().filter(allowed) else {
             return false;
         };
@@ -274,9 +282,9 @@ impl<'a> Checker<'a> {
             (Part::Base, Ok(0)) => literals
                 .iter()
                 .copied()
-                .eq((0..=self.depth).map(|o| !holds(o))),
-            (Part::Step, Ok(q)) if q < self.depth => literals == [holds(q)],
-            (Part::Step, Ok(q)) if q == self.depth => literals == [!holds(q)],
+                .eq((0..=self.layout.depth).map(|o| !holds(o))),
+            (Part::Step, Ok(q)) if q < self.layout.depth => literals == [holds(q)],
+            (Part::Step, Ok(q)) if q == self.layout.depth => literals == [!holds(q)],
             _ => false,
         }
     }
@@ -284,12 +292,15 @@ impl<'a> Checker<'a> {
     /// Kind 3: "p and q are lower lines of the same part; literal r stands in
     /// p, its opposite in q. Each literal of p but r, and of q but the
     /// opposite, stands in this line. More may stand here."
-    fn is_join(&self, line: &Line, first: usize) -> bool {
-        let lower = |number: u16| {
-            let index = usize::from(number).checked_sub(first)?;
-            self.clauses.get(index)
+    ///
+    /// The file is read for them, whether or not they were checked.
+    fn is_join(&self, line: &Line, lower: &Range<usize>) -> bool {
+        let cited = |number: u16| {
+            let number = usize::from(number);
+            let stands = lower.contains(&number);
+            stands.then(|| Clause::decode(&self.layout.lines[number]))
         };
-        let (Some(p), Some(q)) = (lower(line.p), lower(line.q)) else {
+        let (Some(p), Some(q)) = (cited(line.p), cited(line.q)) else {
             return false;
         };
         let r = Literal::from_number(line.r);

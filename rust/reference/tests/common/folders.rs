@@ -39,11 +39,12 @@ pub fn named(name: &str) -> Folder {
     Folder::read(top().join(name))
 }
 
-/// Every example, by name.
+/// Every example with a node, by name.
 pub fn all() -> Vec<Folder> {
     let entries = fs::read_dir(top()).unwrap();
     let paths = entries.map(|entry| entry.unwrap().path());
-    let mut folders: Vec<Folder> = paths.filter(|p| p.is_dir()).map(Folder::read).collect();
+    let with_node = paths.filter(|path| path.join("node.bin").is_file());
+    let mut folders: Vec<Folder> = with_node.map(Folder::read).collect();
     folders.sort_by(|left, right| left.path.cmp(&right.path));
     folders
 }
