@@ -1,30 +1,6 @@
 /* Fuzz target of the calls on files. Input: u16 split point, then that many bytes of node file, then the certificate. */
 #include "target.h"
 
-/* Whether a trailer has its fixed bytes, version 2 among them. */
-static int has_fixed_bytes(const uint8_t *trailer)
-{
-    return trailer[0] == 0x4B && trailer[1] == 0x43 && trailer[2] == 2 && trailer[10] == 0 && trailer[11] == 0;
-}
-
-static void check_certificate_answer(conuhawe_answer a, const uint8_t *cert, size_t length)
-{
-    if (a.number != 11)
-        CHECK((a.number == 12) == !has_fixed_bytes(cert + length - 16));
-    if (a.number != 0 && a.number <= 14) {
-        check_shape(a, 0, 0, 0);
-        return;
-    }
-    const uint8_t *trailer = cert + length - 16;
-    size_t constraints = u16_at(trailer + 4), base = u16_at(trailer + 6), step = u16_at(trailer + 8);
-    CHECK(16 + 80 * (constraints + base + step) <= length);
-    check_shape(a, 0, constraints, base + step);
-    if (a.number != 0)
-        return;
-    CHECK(a.value[0] >= 1 && a.value[0] <= 8 && a.value[0] == trailer[3]);
-    CHECK(a.value[1] == base && a.value[2] == step);
-}
-
 int LLVMFuzzerTestOneInput(const uint8_t *data, size_t size)
 {
     if (size < 2)

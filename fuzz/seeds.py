@@ -1,7 +1,7 @@
 #!/usr/bin/env python3
 """Writes the seeds of all targets: seeds.py FOLDER. From the examples, crates/check_pairs, nodes in another order and with loops,
-certificates of every depth and of other versions, sessions at the ends of 64 bits, records with trials, and a held level with its
-ranges."""
+certificates of every depth and of other versions, turns from any line, sessions at the ends of 64 bits, records with trials, and a
+held level with its ranges."""
 import itertools
 import pathlib
 import struct
@@ -16,6 +16,7 @@ DATA = ROOT / "crates" / "check_pairs" / "data"
 VERSION = 2
 RECORD_FILE = 1040
 NATURAL = 128
+GREATEST = 0xFFFF
 INSTANT, TRIAL, COMMIT, BEGIN = range(4)
 # events of a session, eight a seed
 AT_ONCE = [INSTANT] * 4 + [TRIAL, INSTANT, COMMIT, INSTANT]
@@ -112,8 +113,8 @@ def pairs():
     for name, node in orders():
         yield name, node, b""
     yield from depths()
-    for folder in sorted(p for p in (ROOT / "examples").iterdir() if p.is_dir()):
-        yield folder.name, content(folder / "node.bin"), content(folder / "cert.bin")
+    for path in sorted((ROOT / "examples").glob("*/node.bin")):
+        yield path.parent.name, content(path), content(path.parent / "cert.bin")
     names = (DATA.parent / "args").read_text().splitlines()
     for node, cert in zip(names[::2], names[1::2]):
         yield f"{node}-{cert}", content(DATA / node), content(DATA / cert)
@@ -121,6 +122,36 @@ def pairs():
 
 def check_seed(node, cert):
     return struct.pack("<H", len(node)) + node + cert
+
+
+def turns_seed(node, cert, line, *quotas):
+    return struct.pack("<HHH", line, *quotas) + check_seed(node, cert)
+
+
+def with_cited(cert, first, lines):
+    """The first join's line, and the certificate with a line that it cites overwritten: more literals than there is room for."""
+    for i in range(lines):
+        kind, _, cited = struct.unpack_from("<BBH", cert, first + 80 * i)
+        if kind == 3 and cited < i:
+            at = first + 80 * cited
+            count = min(cert[at + 1], 12)
+            listed = cert[at + 8:at + 8 + 2 * count].ljust(24, cert[at + 8:at + 9])
+            return i, cert[:at + 1] + b"\xff" + cert[at + 2:at + 8] + listed + cert[at + 32:]
+    return 0, cert
+
+
+def turns(node, cert):
+    """Turns from the first line, from the middle, at the end and past it, and at a join that cites an overwritten line."""
+    lines = sum(struct.unpack_from("<HH", cert, len(cert) - 10)) if len(cert) >= 16 else 0
+    yield "begun", turns_seed(node, cert, 0, 1, 2)
+    yield "middle", turns_seed(node, cert, lines // 2, lines // 4, GREATEST)
+    first = len(cert) - 16 - 80 * lines
+    if not 0 < lines <= 818 or first < 0:
+        return
+    yield "end", turns_seed(node, cert, lines, 0, GREATEST - 1)
+    yield "past", turns_seed(node, cert, lines + 1, GREATEST, 0)
+    line, other = with_cited(cert, first, lines)
+    yield "cited", turns_seed(node, other, line, 1, 0)
 
 
 def record(node, started, last, held=0, trial=0):
@@ -166,11 +197,13 @@ def tables():
 
 def main():
     out = pathlib.Path(sys.argv[1])
-    for target in ("fuzz_check", "fuzz_session", "fuzz_ranges"):
+    for target in ("fuzz_check", "fuzz_turns", "fuzz_session", "fuzz_ranges"):
         (out / target).mkdir(parents=True, exist_ok=True)
     nodes = {}
     for name, node, cert in pairs():
         (out / "fuzz_check" / name).write_bytes(check_seed(node, cert))
+        for turn, seed in turns(node, cert):
+            (out / "fuzz_turns" / f"{name}-{turn}").write_bytes(seed)
         nodes.setdefault(node, name)
     for node, name in nodes.items():
         for i, (kept, inputs, calls) in enumerate([

@@ -59,9 +59,9 @@ static inline int same_answer(conuhawe_answer a, conuhawe_answer b)
 /* The place that a number is met at; 21 has two. */
 static inline int place_fits(size_t number, size_t place)
 {
-    if (number == 0)
+    if (number == 0 || number == CONUHAWE_UNFINISHED)
         return place == CONUHAWE_NO_PLACE;
-    if (number <= 4 || (number >= 11 && number <= 14) || (number >= 30 && number <= 32) || number == 35 || number == 71)
+    if (number <= 4 || (number >= 11 && number <= 14) || (number >= 30 && number <= 32) || number == 35 || number == 55 || number == 71)
         return place == CONUHAWE_FILE;
     if (number <= 8 || number == 23 || number == 33 || number == 34 || number == 72)
         return place == CONUHAWE_RECORD;
@@ -122,6 +122,31 @@ static inline void check_node_answer(conuhawe_answer a, const uint8_t *node, siz
         return;
     CHECK(streams >= 1 && streams <= 64 && 16 + 16 * streams <= length);
     CHECK(a.value[0] == streams && a.value[1] == u16_at(node + length - 10) && a.value[1] < streams && a.value[2] == 0);
+}
+
+/* Whether a trailer has its fixed bytes, version 2 among them. */
+static inline int has_fixed_bytes(const uint8_t *trailer)
+{
+    return trailer[0] == 0x4B && trailer[1] == 0x43 && trailer[2] == 2 && trailer[10] == 0 && trailer[11] == 0;
+}
+
+/* What holds of an answer on a certificate whose node is accepted. The trailer may be read where the file is past 11. */
+static inline void check_certificate_answer(conuhawe_answer a, const uint8_t *cert, size_t length)
+{
+    if (a.number != 11)
+        CHECK((a.number == 12) == !has_fixed_bytes(cert + length - 16));
+    if (a.number != 0 && a.number <= 14) {
+        check_shape(a, 0, 0, 0);
+        return;
+    }
+    const uint8_t *trailer = cert + length - 16;
+    size_t constraints = u16_at(trailer + 4), base = u16_at(trailer + 6), step = u16_at(trailer + 8);
+    CHECK(16 + 80 * (constraints + base + step) <= length);
+    check_shape(a, 0, constraints, base + step);
+    if (a.number != 0)
+        return;
+    CHECK(a.value[0] >= 1 && a.value[0] <= 8 && a.value[0] == trailer[3]);
+    CHECK(a.value[1] == base && a.value[2] == step);
 }
 
 #endif

@@ -26,7 +26,8 @@ extern "C" {
 /* Where a refusal is met: an answer's place. An answer that is not a refusal has place CONUHAWE_NO_PLACE. */
 enum {
     CONUHAWE_NO_PLACE = 0,
-    CONUHAWE_FILE = 1,       /* the file; also input count, slice length, a record that holds no node or no trial, a table of ranges */
+    CONUHAWE_FILE = 1,       /* the file; also input count, slice length, a record that holds no node or no trial, progress past the
+                              * last line, a table of ranges */
     CONUHAWE_RECORD = 2,     /* record `index` of the node file, or the stream of that number */
     CONUHAWE_CONSTRAINT = 3, /* constraint `index` of the certificate */
     CONUHAWE_LINE = 4,       /* line `index`, counted through base and then on through step */
@@ -34,9 +35,10 @@ enum {
     CONUHAWE_STEP = 6        /* the step part */
 };
 
-/* An answer's number: CONUHAWE_ACCEPTED, or the first rule that is broken. */
+/* An answer's number: CONUHAWE_ACCEPTED, of a turn that leaves lines CONUHAWE_UNFINISHED, or the first rule that is broken. */
 enum {
     CONUHAWE_ACCEPTED = 0,
+    CONUHAWE_UNFINISHED = 256, /* no refusal, and nothing is accepted yet */
 
     /* node file; places: file for 1 to 4, record for 5 to 8 and 23 */
     CONUHAWE_NODE_LENGTH = 1,
@@ -63,6 +65,9 @@ enum {
     CONUHAWE_NO_EMPTY_LINE = 21,
     CONUHAWE_CUT_LINE = 22,
 
+    /* turn; place: file */
+    CONUHAWE_PROGRESS = 55, /* the record is past the last line; after 15 and before 16 */
+
     /* instant's call and trial: 30 to 34; commit: 30 and 35; places: file for 30 to 32 and 35, record for 33 and 34 */
     CONUHAWE_NO_NODE = 30, /* no node; or a bool of the last committed instant, past instant 0, or of a held trial is not 0 or 1 */
     CONUHAWE_INPUT_COUNT = 31,
@@ -76,13 +81,30 @@ enum {
     CONUHAWE_RANGE_NOT_INSIDE = 72 /* at the lowest record whose operator's results do not lie inside its range */
 };
 
-/* An answer. Of a refusal all values are 0; of an accepted answer place and index are 0. */
+/* An answer. Of a refusal all values are 0; of an accepted answer place and index are 0, and of an unfinished one the values too. */
 typedef struct conuhawe_answer {
-    size_t number;   /* 0 where accepted, else the rule's number */
-    size_t place;    /* CONUHAWE_FILE .. CONUHAWE_STEP, 0 where accepted */
+    size_t number;   /* 0 where accepted, 256 where unfinished, else the rule's number */
+    size_t place;    /* CONUHAWE_FILE .. CONUHAWE_STEP, 0 where accepted or unfinished */
     size_t index;    /* which record, constraint or line; of other places 0 */
-    size_t value[3]; /* node: streams, property, 0; certificate: depth, base lines, step lines; every other call: 0, 0, 0 */
+    size_t value[3]; /* node: streams, property, 0; certificate, also by turns: depth, base lines, step lines; every other call: 0, 0, 0 */
 } conuhawe_answer;
+
+/* A progress record: how far a certificate is checked, as the number of the next line, counted through base and then on through step.
+ * It is passed and returned by value: no call changes one, and the caller keeps the one that a turn gives.
+ *
+ * It may be stored and lent again, after a restart too. Any number is taken: a forged record is safe, since no call reads or writes
+ * out of place for it. But lines that it skips are never checked, so that an acceptance proves nothing then. */
+typedef struct conuhawe_progress {
+    size_t line;
+} conuhawe_progress;
+
+/* What a turn gives. Refused: `progress` is the record that was given and `checked` is 0. Else progress.line is the given one's plus
+ * `checked`. */
+typedef struct conuhawe_turned {
+    conuhawe_answer answer;
+    conuhawe_progress progress; /* for the next turn */
+    size_t checked;             /* how many lines this turn has moved past */
+} conuhawe_turned;
 
 /* A session record: it is the caller's, and a call changes it only where it is accepted. A record of any bytes is taken (one that
  * holds no node is refused with 30 by every call but conuhawe_begin), so a program may copy it, store it and lend it again; a zeroed
@@ -115,14 +137,42 @@ conuhawe_answer conuhawe_read(const uint8_t *node, size_t node_length);
  * with 12. */
 conuhawe_answer conuhawe_check(const uint8_t *node, size_t node_length, const uint8_t *certificate, size_t certificate_length);
 
+/* The record that the first turn takes: line 0. */
+conuhawe_progress conuhawe_turns_begin(void);
+
+/* Checks the next lines of a certificate, for a caller that has other work to return to: as many as `quota` says, or all that are left
+ * where these are fewer. Any quota is taken; 0 checks no line.
+ *
+ * Each turn begins with the checks before lines, as conuhawe_check has them: rules 1 to 8 and 23 for the node, then 11 to 15; then 55,
+ * where progress.line is over the count of all lines. Then come the lines from progress.line on, one at a time, by rules 16 to 20
+ * and 22, all in this turn's files. A join reads the lower lines that it cites there too, whatever they hold. Where no line is left,
+ * 21 is for all lines of both parts, not only for this turn's. Nothing else of lower lines is looked at.
+ *
+ * Unfinished, by CONUHAWE_UNFINISHED: these lines pass and lines are left. `checked` is the quota, and the record is moved on by it.
+ * Accepted: these lines pass, none is left, and 21 passes. answer.value is as conuhawe_check has it, and the record is at the count of
+ * all lines; a further turn on these files is accepted again, with 0 checked. Refused: the first rule that is broken. The record is as
+ * it was and 0 are checked, even where lines before the one at fault pass, so that a smaller quota may be unfinished after it.
+ *
+ * Let each turn be given the same two files, wherever they stand in memory, the first turn the record of conuhawe_turns_begin, and each
+ * other one the record that the turn before gave, unchanged. Then every answer that is not unfinished is that of conuhawe_check, and
+ * where it is accepted, `checked` of all turns so far adds up to all lines of both parts. Only such an acceptance, or that of
+ * conuhawe_check, says that the property holds at every instant. No call can see whether files or record were changed between turns:
+ * that they were not is for the caller to keep.
+ *
+ * A turn costs its lines and the checks before lines. These are done again in each turn and grow with the streams and the constraints,
+ * not with the lines; the turn that reaches the end also looks for a line without literals in each part, from the part's last line
+ * back. So many small turns cost more than few large ones. */
+conuhawe_turned conuhawe_turn(const uint8_t *node, size_t node_length, const uint8_t *certificate, size_t certificate_length,
+                              conuhawe_progress progress, size_t quota);
+
 /* Begins a session on a node file, checked as by conuhawe_read and answered the same. Accepted: the record is set to the node, before
  * instant 0, and holds no trial. Refused: every byte of the record, so a held trial too, is as it was.
  *
  * From then on the record is moved by the session's calls, conuhawe_trial, conuhawe_commit and conuhawe_instant, in any mix and with
  * refused ones between them. An instant is committed by an accepted conuhawe_commit, with the inputs of the trial that was held, or by
  * an accepted conuhawe_instant, with its own. The values along the committed instants are those of the node's equations on the
- * committed inputs, and a trial's are those on the committed inputs and its own. Where conuhawe_check has accepted a certificate for
- * the node, the property's value is 1 in all of them. */
+ * committed inputs, and a trial's are those on the committed inputs and its own. Where a certificate for the node is accepted, by
+ * conuhawe_check or by turns as conuhawe_turn asks for them, the property's value is 1 in all of them. */
 conuhawe_answer conuhawe_begin(conuhawe_session *session, const uint8_t *node, size_t node_length);
 
 /* Runs the next instant: a trial and its commit. `inputs` has one number for each input, in record order (bool: 0 or 1); `values` has

@@ -7,6 +7,10 @@
 #include <string.h>
 
 static_assert(sizeof(conuhawe_answer) == 48, "an answer is six numbers");
+static_assert(sizeof(conuhawe_progress) == 8, "a progress record is one number");
+static_assert(sizeof(conuhawe_turned) == 64, "an answer and two numbers more");
+static_assert(offsetof(conuhawe_turned, progress) == 48, "the answer comes first");
+static_assert(offsetof(conuhawe_turned, checked) == 56, "a number before it");
 static_assert(sizeof(conuhawe_session) == 2080, "a record has no padding");
 static_assert(offsetof(conuhawe_session, last) == 8, "the length comes first");
 static_assert(offsetof(conuhawe_session, trial) == 520, "64 values of the last instant before it");
@@ -120,6 +124,90 @@ static void check_versions(file node, file cert)
     c[7 + 10] = 0;
     expect("instant 0 alone", conuhawe_check(node.bytes, node.length, c, length), CONUHAWE_PROPERTY_LINE, CONUHAWE_LINE, 0, 0, 0, 0);
     free(c);
+}
+
+/* Both files of the two bands, whose certificate has 23 lines in its base and 12 in its step. */
+typedef struct {
+    uint8_t *node, *cert;
+    size_t node_length, cert_length;
+} pair;
+
+static conuhawe_turned turn(pair p, size_t line, size_t quota)
+{
+    conuhawe_progress progress = {line};
+    return conuhawe_turn(p.node, p.node_length, p.cert, p.cert_length, progress, quota);
+}
+
+static void unfinished(const char *what, conuhawe_turned got, size_t line, size_t checked)
+{
+    expect(what, got.answer, CONUHAWE_UNFINISHED, CONUHAWE_NO_PLACE, 0, 0, 0, 0);
+    expect_true(what, got.progress.line == line && got.checked == checked);
+}
+
+static void accepted(const char *what, conuhawe_turned got, size_t checked)
+{
+    expect(what, got.answer, CONUHAWE_ACCEPTED, CONUHAWE_NO_PLACE, 0, 1, 23, 12);
+    expect_true(what, got.progress.line == 35 && got.checked == checked);
+}
+
+/* A turn that is refused leaves its record where it was. */
+static void refused(const char *what, conuhawe_turned got, size_t line, size_t number, size_t place, size_t index)
+{
+    expect(what, got.answer, number, place, index, 0, 0, 0);
+    expect_true(what, got.progress.line == line && got.checked == 0);
+}
+
+/* From the first line to the last, with every quota: as one call says, and all lines. */
+static void check_in_turns(pair p)
+{
+    for (size_t quota = 1; quota <= 36; quota++) {
+        conuhawe_progress at = conuhawe_turns_begin();
+        conuhawe_turned got;
+        size_t turns = 0, checked = 0;
+        do {
+            got = conuhawe_turn(p.node, p.node_length, p.cert, p.cert_length, at, quota);
+            at = got.progress;
+            checked += got.checked;
+            turns++;
+        } while (got.answer.number == CONUHAWE_UNFINISHED && turns < 100);
+        expect("in turns", got.answer, CONUHAWE_ACCEPTED, CONUHAWE_NO_PLACE, 0, 1, 23, 12);
+        expect_true("all lines", at.line == 35 && checked == 35 && turns == (35 + quota - 1) / quota);
+    }
+}
+
+static void check_turns(file node, file cert)
+{
+    pair p = {block(node, 0), block(cert, 0), node.length, cert.length}, none = p;
+    none.node_length = 0;
+    expect_true("a begun record", conuhawe_turns_begin().line == 0);
+    check_in_turns(p);
+    unfinished("quota 0", turn(p, 0, 0), 0, 0);
+    unfinished("quota 1", turn(p, 0, 1), 1, 1);
+    unfinished("all but one", turn(p, 1, 33), 34, 33);
+    accepted("the last", turn(p, 34, 1), 1);
+    accepted("the rest", turn(p, 1, SIZE_MAX), 34);
+    accepted("at the end", turn(p, 35, 0), 0);
+    accepted("again", turn(p, 35, SIZE_MAX), 0);
+    refused("past the last line", turn(p, 36, 1), 36, CONUHAWE_PROGRESS, CONUHAWE_FILE, 0);
+    refused("past any line", turn(p, SIZE_MAX, SIZE_MAX), SIZE_MAX, CONUHAWE_PROGRESS, CONUHAWE_FILE, 0);
+    refused("no node", turn(none, 36, 1), 36, CONUHAWE_NODE_LENGTH, CONUHAWE_FILE, 0);
+
+    /* line 13, a join of lower lines, cites itself */
+    p.cert[80 * 13 + 2] = 13;
+    refused("in the first turn", turn(p, 0, SIZE_MAX), 0, CONUHAWE_JOIN_LINE, CONUHAWE_LINE, 13);
+    refused("in a later turn", turn(p, 4, 10), 4, CONUHAWE_JOIN_LINE, CONUHAWE_LINE, 13);
+    unfinished("before it", turn(p, 4, 9), 13, 9);
+    refused("at it", turn(p, 13, 1), 13, CONUHAWE_JOIN_LINE, CONUHAWE_LINE, 13);
+    accepted("a forged record skips it", turn(p, 14, 100), 21);
+
+    /* the step's last line is no longer empty */
+    p.cert[80 * 34 + 1] = 1;
+    p.cert[80 * 34 + 8] = 10;
+    refused("no empty line", turn(p, 14, SIZE_MAX), 14, CONUHAWE_NO_EMPTY_LINE, CONUHAWE_STEP, 0);
+    refused("no empty line, at the end", turn(p, 35, 0), 35, CONUHAWE_NO_EMPTY_LINE, CONUHAWE_STEP, 0);
+    unfinished("not looked for before", turn(p, 14, 20), 34, 20);
+    free(p.node);
+    free(p.cert);
 }
 
 /* A call that is refused, an instant's and a trial, leaves the record and the values. */
@@ -374,6 +462,7 @@ int main(int argc, char **argv)
     check_files(node, cert);
     check_notes(node, cert);
     check_versions(node, cert);
+    check_turns(node, cert);
     check_session(node);
     check_orders(node, cert);
     check_ranges();

@@ -37,8 +37,8 @@ impl fmt::Display for Place {
 /// A refusal: the number of the first rule that is broken, and where.
 ///
 /// 1 to 8 and 23 are of a node file, 11 to 22 of a certificate, 30 to 34 of
-/// an instant's call or a trial, 30 and 35 of a commit, 71 and 72 of a table of
-/// ranges. A refusal prints as `refused 19 line 4`.
+/// an instant's call or a trial, 30 and 35 of a commit, 55 of a turn, 71 and 72
+/// of a table of ranges. A refusal prints as `refused 19 line 4`.
 #[derive(Clone, Copy, Debug, PartialEq, Eq, Hash)]
 pub struct Refusal {
     /// The rule's number.
@@ -84,6 +84,28 @@ impl fmt::Display for Accepted {
     }
 }
 
+/// What a turn that is not refused comes to. It prints as `unfinished`, or as
+/// what is accepted.
+#[derive(Clone, Copy, Debug, PartialEq, Eq, Hash)]
+pub enum Stage {
+    /// Lines are left.
+    Unfinished,
+    /// None is left, and the certificate is accepted.
+    Accepted(Accepted),
+}
+
+impl fmt::Display for Stage {
+    fn fmt(&self, f: &mut fmt::Formatter<'_>) -> fmt::Result {
+        match self {
+            Stage::Unfinished => f.write_str("unfinished"),
+            Stage::Accepted(accepted) => accepted.fmt(f),
+        }
+    }
+}
+
+/// The number of an answer that is unfinished, `CONUHAWE_UNFINISHED`.
+const UNFINISHED: usize = 256;
+
 impl Answer {
     /// The three values of an accepted answer, or the refusal.
     fn values(self) -> Result<[usize; 3], Refusal> {
@@ -116,5 +138,12 @@ impl Answer {
     pub(crate) fn certificate(self) -> Result<Accepted, Refusal> {
         self.values()
             .map(|[depth, base, step]| Accepted { depth, base, step })
+    }
+
+    pub(crate) fn stage(self) -> Result<Stage, Refusal> {
+        match self.number {
+            UNFINISHED => Ok(Stage::Unfinished),
+            _ => self.certificate().map(Stage::Accepted),
+        }
     }
 }

@@ -23,6 +23,26 @@
 //! # Ok(())
 //! # }
 //! ```
+//!
+//! A certificate may be checked in turns, with other work between them:
+//!
+//! ```no_run
+//! use conuhawe::{Stage, Turns};
+//!
+//! # fn steer() {}
+//! # fn main() -> Result<(), Box<dyn std::error::Error>> {
+//! # let [node, certificate] = [std::fs::read("node.bin")?, std::fs::read("cert.bin")?];
+//! let mut turns = Turns::begin(&node, &certificate);
+//! let accepted = loop {
+//!     match turns.turn(10).answer? {
+//!         Stage::Unfinished => steer(),
+//!         Stage::Accepted(accepted) => break accepted,
+//!     }
+//! };
+//! assert_eq!(conuhawe::check(&node, &certificate), Ok(accepted));
+//! # Ok(())
+//! # }
+//! ```
 
 #![warn(missing_docs)]
 #![deny(unsafe_op_in_unsafe_fn)]
@@ -31,7 +51,9 @@ mod answer;
 mod files;
 mod session;
 mod sys;
+mod turns;
 
-pub use answer::{Accepted, Node, Place, Refusal};
+pub use answer::{Accepted, Node, Place, Refusal, Stage};
 pub use files::{certificate_note, check, node_note, ranges, read};
 pub use session::Session;
+pub use turns::{turn, turns_begin, Progress, Turned, Turns};

@@ -12,8 +12,9 @@ use std::mem::{size_of, transmute};
 /// the trial that was held, or by [`instant`](Session::instant), with its own.
 /// The values along the committed instants are those of the node's equations on
 /// the committed inputs, and a trial's are those on the committed inputs and
-/// its own. Where [`check`](crate::check) has accepted a certificate for the
-/// node, the property's value is 1 in all of them.
+/// its own. Where a certificate for the node is accepted, by
+/// [`check`](crate::check) or by [`Turns`](crate::Turns), the property's value
+/// is 1 in all of them.
 #[derive(Clone)]
 pub struct Session {
     record: Record,

@@ -23,6 +23,22 @@ pub(crate) struct Record {
     pub(crate) spare: [u8; 6],
 }
 
+/// `conuhawe_progress`.
+#[repr(C)]
+#[derive(Clone, Copy)]
+pub(crate) struct Progress {
+    pub(crate) line: usize,
+}
+
+/// `conuhawe_turned`.
+#[repr(C)]
+#[derive(Clone, Copy)]
+pub(crate) struct Turned {
+    pub(crate) answer: Answer,
+    pub(crate) progress: Progress,
+    pub(crate) checked: usize,
+}
+
 extern "C" {
     pub(crate) fn conuhawe_read(node: *const u8, length: usize) -> Answer;
     pub(crate) fn conuhawe_check(
@@ -31,6 +47,15 @@ extern "C" {
         certificate: *const u8,
         certificate_length: usize,
     ) -> Answer;
+    pub(crate) fn conuhawe_turns_begin() -> Progress;
+    pub(crate) fn conuhawe_turn(
+        node: *const u8,
+        node_length: usize,
+        certificate: *const u8,
+        certificate_length: usize,
+        progress: Progress,
+        quota: usize,
+    ) -> Turned;
     pub(crate) fn conuhawe_begin(record: *mut Record, node: *const u8, length: usize) -> Answer;
     pub(crate) fn conuhawe_instant(
         record: *mut Record,

@@ -1,7 +1,8 @@
 //! `rust/reference` as a checker.
 
-use crate::checker::{Checker, Record, Refusal, Shape, Verdict};
-use reference::{certificate, node, ranges, session};
+use crate::checker::{Checker, Progress, Record, Refusal, Shape, Turned, Verdict};
+use reference::certificate::{self, turns};
+use reference::{node, ranges, session};
 
 /// The second implementation, written from 01 alone.
 #[derive(Clone, Copy, Debug, Default)]
@@ -14,6 +15,14 @@ impl Checker for Reference {
 
     fn check(&self, node: &[u8], certificate: &[u8]) -> Verdict {
         certificate::check(node, certificate)
+    }
+
+    fn turns_begin(&self) -> Progress {
+        turns::turns_begin()
+    }
+
+    fn turn(&self, node: &[u8], certificate: &[u8], progress: Progress, quota: usize) -> Turned {
+        turns::turn(node, certificate, progress, quota)
     }
 
     fn read(&self, file: &[u8]) -> Result<Shape, Refusal> {

@@ -1,6 +1,7 @@
 //! What an implementation is compared by.
 
 pub use reference::answer::{Accepted, Place, Refusal, Verdict};
+pub use reference::certificate::turns::{Answer as Stage, Progress, Turned};
 pub use reference::session::Record;
 
 /// What the reader says of an accepted node file.
@@ -24,6 +25,12 @@ pub trait Checker {
 
     /// The verdict on a node file and a certificate file.
     fn check(&self, node: &[u8], certificate: &[u8]) -> Verdict;
+
+    /// A begun progress record.
+    fn turns_begin(&self) -> Progress;
+
+    /// A turn of some lines on a node file and a certificate file.
+    fn turn(&self, node: &[u8], certificate: &[u8], progress: Progress, quota: usize) -> Turned;
 
     /// The verdict on a node file.
     fn read(&self, node: &[u8]) -> Result<Shape, Refusal>;

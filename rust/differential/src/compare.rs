@@ -1,7 +1,8 @@
-//! The comparison: verdict, place, note lengths, values, session record and
-//! slices, byte for byte. A difference panics with the seed and the bytes.
+//! The comparison: verdict, place, note lengths, turns, values, session record
+//! and slices, byte for byte. A difference panics with the seed and the bytes.
 
 use crate::checker::{record_bytes, Checker, Record, Refusal, Shape, Verdict};
+use crate::checker::{Progress, Stage, Turned};
 use std::fmt::{Debug, Write};
 
 /// Where a case comes from: a run's seed and the case's number draw it again.
@@ -70,6 +71,58 @@ pub fn pair(checkers: &[&dyn Checker], origin: Origin, node: &[u8], certificate:
         }
     }
     said.verdict
+}
+
+/// Whether a turn is one on this record and quota: the number checked is the
+/// distance moved, and a refused one is where it was.
+fn is_turn(given: Progress, quota: usize, turned: Turned) -> bool {
+    let Turned {
+        answer,
+        progress,
+        checked,
+    } = turned;
+    let moved = progress.line.checked_sub(given.line) == Some(checked);
+    moved
+        && match answer {
+            Stage::Accepted(_) => checked <= quota,
+            Stage::Unfinished => checked == quota,
+            Stage::Refused(_) => checked == 0,
+        }
+}
+
+/// Compares all on a turn and gives what the first gives.
+pub fn turn(
+    checkers: &[&dyn Checker],
+    origin: Origin,
+    (node, certificate): (&[u8], &[u8]),
+    progress: Progress,
+    quota: usize,
+) -> Turned {
+    let turn = |checker: &dyn Checker| checker.turn(node, certificate, progress, quota);
+    let first = turn(checkers[0]);
+    let given = [progress.line, quota].map(usize::to_le_bytes).concat();
+    let bytes = [
+        ("node", node),
+        ("certificate", certificate),
+        ("line and quota", &given[..]),
+    ];
+    if !is_turn(progress, quota, first) {
+        differ(
+            origin,
+            checkers[0],
+            &first,
+            checkers[0],
+            &"incoherent",
+            &bytes,
+        );
+    }
+    for other in &checkers[1..] {
+        let theirs = turn(*other);
+        if theirs != first {
+            differ(origin, checkers[0], &first, *other, &theirs, &bytes);
+        }
+    }
+    first
 }
 
 /// Compares all on a table of ranges and gives the first one's answer. The

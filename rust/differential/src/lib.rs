@@ -13,9 +13,10 @@
 //!   spoil; [`cases`] mixes them. [`listed`] generates nodes with tables of
 //!   [`ranges`], [`misranges`] spoils the tables. [`misrecords`] spoils session
 //!   records. [`largest`], [`narrow`] and [`alike`] generate what is measured.
+//!   [`splits`] splits a check into turns.
 //! * [`compare`] compares, and prints seed and bytes where two differ;
-//!   [`tally`] and [`events`] count what was met, [`rests`] tells what a step
-//!   rests on.
+//!   [`tally`], [`events`] and [`stages`] count what was met, [`rests`] tells
+//!   what a step rests on.
 //!
 //! A longer run, with a line on the way now and then:
 //!
@@ -24,6 +25,8 @@
 //!     cargo test --offline --test differential -- --nocapture --test-threads=1
 //! DIFFERENTIAL_TABLES=5000000 DIFFERENTIAL_SEED=2 \
 //!     cargo test --offline --test ranges -- --nocapture --test-threads=1
+//! DIFFERENTIAL_TURNS=5000000 DIFFERENTIAL_SEED=2 \
+//!     cargo test --offline --test turns -- --nocapture --test-threads=1
 //! ```
 //!
 //! The same seed draws the same cases; a difference names seed and case and
@@ -67,6 +70,8 @@ pub mod random;
 pub mod ranges;
 pub mod reorder;
 pub mod rests;
+pub mod splits;
+pub mod stages;
 pub mod tally;
 pub mod twin;
 pub mod windows;

@@ -7,6 +7,7 @@
 pub mod marked;
 
 use crate::checker::{Accepted, Checker, Place, Record, Refusal, Shape, Verdict};
+use crate::checker::{Progress, Stage, Turned};
 use conuhawe::Session;
 
 const LAST: usize = 8;
@@ -32,6 +33,28 @@ fn place(place: conuhawe::Place) -> Place {
 
 fn refusal(refusal: conuhawe::Refusal) -> Refusal {
     Refusal::new(small(refusal.number), place(refusal.place))
+}
+
+fn accepted(accepted: conuhawe::Accepted) -> Accepted {
+    Accepted {
+        depth: small(accepted.depth),
+        base: small(accepted.base),
+        step: small(accepted.step),
+    }
+}
+
+fn stage(answer: Result<conuhawe::Stage, conuhawe::Refusal>) -> Stage {
+    match answer {
+        Ok(conuhawe::Stage::Unfinished) => Stage::Unfinished,
+        Ok(conuhawe::Stage::Accepted(own)) => Stage::Accepted(accepted(own)),
+        Err(own) => Stage::Refused(refusal(own)),
+    }
+}
+
+fn progress(progress: conuhawe::Progress) -> Progress {
+    Progress {
+        line: progress.line(),
+    }
 }
 
 /// A number of a contract, whose limits say that it fits.
@@ -100,11 +123,21 @@ impl Checker for Proved {
 
     fn check(&self, node: &[u8], certificate: &[u8]) -> Verdict {
         let verdict = conuhawe::check(node, certificate);
-        verdict.map_err(refusal).map(|accepted| Accepted {
-            depth: small(accepted.depth),
-            base: small(accepted.base),
-            step: small(accepted.step),
-        })
+        verdict.map_err(refusal).map(accepted)
+    }
+
+    fn turns_begin(&self) -> Progress {
+        progress(conuhawe::turns_begin())
+    }
+
+    fn turn(&self, node: &[u8], certificate: &[u8], given: Progress, quota: usize) -> Turned {
+        let given = conuhawe::Progress::at(given.line);
+        let turned = conuhawe::turn(node, certificate, given, quota);
+        Turned {
+            answer: stage(turned.answer),
+            progress: progress(turned.progress),
+            checked: turned.checked,
+        }
     }
 
     fn read(&self, node: &[u8]) -> Result<Shape, Refusal> {

@@ -2,7 +2,7 @@
 //! behind a note, and sessions by the tiny evaluator. It stays a test of its
 //! own where two implementations are compared.
 
-use crate::checker::{Checker, Record, Refusal, Shape, Verdict};
+use crate::checker::{Checker, Progress, Record, Refusal, Shape, Stage, Turned, Verdict};
 use crate::evaluator;
 
 /// The second path through `C`.
@@ -34,6 +34,21 @@ impl<C: Checker> Checker for Twin<C> {
         match self.0.check(node, certificate) {
             Err(refusal) if is_of_length(&refusal) => Err(refusal),
             _ => self.0.check(&moved(node).0, &moved(certificate).0),
+        }
+    }
+
+    fn turns_begin(&self) -> Progress {
+        self.0.turns_begin()
+    }
+
+    fn turn(&self, node: &[u8], certificate: &[u8], progress: Progress, quota: usize) -> Turned {
+        let turned = self.0.turn(node, certificate, progress, quota);
+        match turned.answer {
+            Stage::Refused(refusal) if is_of_length(&refusal) => turned,
+            _ => {
+                let (node, certificate) = (moved(node).0, moved(certificate).0);
+                self.0.turn(&node, &certificate, progress, quota)
+            }
         }
     }
 

@@ -1,17 +1,20 @@
 //! Times of each checker on the same input in the same run: verdicts on large
 //! and small certificates, instants of a node of 64 streams, its trials and
 //! commits, cuts beside arithmetic lines, equation lines with multiplied
-//! constraints beside the same lines without, instants of the same node in other
-//! orders, instants of lessers and greaters, and tables of ranges. A library
-//! from before 02's S-5 has no trials and is not linked. Nodes, inputs and lines
-//! are those that were drawn before S-4, when the base ended at k − 1: each
-//! certificate has an equation and a join more, two property lines (or last
-//! lines) less, and not-prop at k in the base's property lines.
+//! constraints beside the same lines without, instants of the same node in
+//! other orders, instants of lessers and greaters, tables of ranges, and turns.
+//! A library from before 02's S-9 has no turns and is not linked. Nodes, inputs
+//! and lines are those that were drawn before S-4, when the base ended at k −
+//! 1: each certificate has an equation and a join more, two property lines (or
+//! last lines) less, and not-prop at k in the base's property lines.
 //!
 //! `cargo run --offline --release --bin bench`; with
 //! `--no-default-features` the reference alone. The checkers take turns in
 //! many short rounds; a ratio is that of one round, so that what else the
 //! machine does meets both. Printed are medians, with the middle half.
+
+#[path = "bench/turns.rs"]
+mod turns;
 
 use differential::alike::{alike, Alike};
 use differential::by_reference::Reference;
@@ -61,24 +64,22 @@ fn summary(mut numbers: Vec<f64>) -> [f64; 3] {
 }
 
 /// Something that is measured.
-type Turn<'a> = Box<dyn Fn() + 'a>;
+type Run<'a> = Box<dyn Fn() + 'a>;
 
-/// The seconds that each takes in each round, by turns.
-fn rounds(turns: &[Turn]) -> Vec<Vec<f64>> {
-    let turns: Vec<_> = turns.iter().map(|turn| (turn, runs(turn))).collect();
+/// The seconds that each takes in each round, one after the other.
+fn rounds(all: &[Run]) -> Vec<Vec<f64>> {
+    let all: Vec<_> = all.iter().map(|run| (run, runs(run))).collect();
     let round = |_| {
-        turns
-            .iter()
-            .map(|(turn, runs)| seconds(turn, *runs))
-            .collect()
+        let each = all.iter().map(|(run, runs)| seconds(run, *runs));
+        each.collect()
     };
     (0..ROUNDS).map(round).collect()
 }
 
 /// Measures all checkers and prints a line for each.
 fn measure(what: &str, per: usize, run: &dyn Fn(&dyn Checker)) {
-    let turn = |checker: &'static dyn Checker| -> Turn { Box::new(move || run(checker)) };
-    let rounds = rounds(&CHECKERS.iter().copied().map(turn).collect::<Vec<_>>());
+    let by = |checker: &'static dyn Checker| -> Run { Box::new(move || run(checker)) };
+    let rounds = rounds(&CHECKERS.iter().copied().map(by).collect::<Vec<_>>());
     for (i, checker) in CHECKERS.iter().enumerate() {
         let ratios = rounds.iter().map(|round| round[i] / round[0]);
         let [ratio, low, high] = summary(ratios.collect());
@@ -160,7 +161,7 @@ fn costs(checker: &dyn Checker, node: &[u8], files: &[Vec<u8>; 3], lines: [usize
     let rounds = rounds(
         &files
             .each_ref()
-            .map(|file| -> Turn { Box::new(move || check(checker, node, file)) }),
+            .map(|file| -> Run { Box::new(move || check(checker, node, file)) }),
     );
     let costs = |i: usize| {
         let lines = lines[i] as f64;
@@ -242,10 +243,10 @@ fn repeated(certificate: &CertificateFile, times: usize) -> CertificateFile {
 }
 
 /// A part's lines some times over, where its line 0 was one number and is
-/// another: joins cite the lines of their own turn.
+/// another: joins cite the lines of their own time.
 fn repeated_part(part: &[Line], times: usize, was: usize, is: usize) -> Vec<Line> {
-    let turn = |turn: usize| {
-        let moved = (is + turn * part.len() - was) as u16;
+    let time = |time: usize| {
+        let moved = (is + time * part.len() - was) as u16;
         part.iter().map(move |line| {
             let mut line = *line;
             if line.kind == 3 {
@@ -255,7 +256,7 @@ fn repeated_part(part: &[Line], times: usize, was: usize, is: usize) -> Vec<Line
             line
         })
     };
-    (0..times).flat_map(turn).collect()
+    (0..times).flat_map(time).collect()
 }
 
 /// The reader on 64 streams.
@@ -394,4 +395,6 @@ fn main() {
     orders(&node, &inputs);
     extremes(&mut random);
     tables(&mut random);
+    turns::in_turns(&mut random);
+    turns::before_lines(&mut random);
 }

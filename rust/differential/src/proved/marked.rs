@@ -3,7 +3,7 @@
 //! ones. What a call leaves is looked at by the byte.
 
 use super::{lent, refusal, taken_back, Proved, HELD, STARTED};
-use crate::checker::{Checker, Record, Refusal, Shape, Verdict};
+use crate::checker::{Checker, Progress, Record, Refusal, Shape, Turned, Verdict};
 use conuhawe::Session;
 
 /// The proved calls over such records.
@@ -56,6 +56,14 @@ impl Checker for Marked {
 
     fn check(&self, node: &[u8], certificate: &[u8]) -> Verdict {
         Proved.check(node, certificate)
+    }
+
+    fn turns_begin(&self) -> Progress {
+        Proved.turns_begin()
+    }
+
+    fn turn(&self, node: &[u8], certificate: &[u8], progress: Progress, quota: usize) -> Turned {
+        Proved.turn(node, certificate, progress, quota)
     }
 
     fn read(&self, node: &[u8]) -> Result<Shape, Refusal> {
