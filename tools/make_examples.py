@@ -549,7 +549,7 @@ PAGE = """# Examples
 Nodes of a booking scheduler. Each folder has a node file, a certificate file, the one line `verdict` that a checker says of the
 two, and a page that gives the equations and the argument. Those for the flight list also have a table of ranges, `table.bin`, and
 the one line `listed` that the check of ranges says of node and table. One has a pass of a session on its node, `pass.bin`, and the
-lines `says` that are printed when it is run. `tools/make_examples.py` writes them all.
+lines `says` that are printed when it is run. `tools/make_examples.py` writes all of these.
 
 The certificates are of version 2: at depth k the base shows the property at instants 0 to k, and the step at the last of k + 1
 instants in a row that begin after instant 0. Where an argument needs the property of an earlier instant, the step takes it from
@@ -570,6 +570,11 @@ The line on a table of ranges, after its name:
 The lines of a pass:
 
     tools/run-pass examples/on-duty
+
+[between-commands](between-commands/README.md) has no node of its own: it is a program in C that checks a certificate ten lines at a time between two
+commands to an antenna.
+
+    tools/check-in-turns examples/relay
 """
 
 
