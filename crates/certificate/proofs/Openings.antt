@@ -21,10 +21,11 @@ use Rattle.rules.specs.Verdict.{typesOfNode, constraintPasses, fileVerdict}
 use Rattle.rules.specs.Versions.{version2}
 use Rattle.rules.proofs.FileFacts.{FileFacts, file-facts, file-passed}
 use Rattle.rules.proofs.Outcomes.{file-opens}
-use Rattle.certificate.specs.declared.frame.Frame.{Frame}
+use Rattle.lines.specs.declared.frame.Frame.{Frame}
+use Rattle.lines.specs.Checking.{Checking}
+use Rattle.lines.specs.Frame.{frameOf}
 use Rattle.certificate.specs.declared.reading.Opened.the-variants.{Passed, Refused}
-use Rattle.certificate.specs.Checking.{NodePassed, FilePassed, Checking, openingOf}
-use Rattle.certificate.specs.Frame.{frameOf}
+use Rattle.certificate.specs.Opening.{NodePassed, FilePassed, openingOf}
 
 -- an accepted node file, from the values that its answer carries
 pub node-passed : (node : List ℕ) (n property : ℕ) → nodeVerdict node ≡ accepted (record { streams = n; property = property }) → NodePassed node n property

@@ -10,10 +10,9 @@ use Rattle.constraints.specs.Layout.{Line, trailerOf, lineOf}
 use Rattle.rules.specs.Lines.{hasLiterals, hasEmpty}
 use Rattle.rules.specs.Verdict.{baseOf, stepOf, linesOf}
 use Rattle.rules.specs.Versions.{version2}
-use Rattle.certificate.specs.declared.frame.Frame.{Frame}
-use Rattle.certificate.specs.Frame.{frameOf}
-use Rattle.certificate.specs.Frame.{linesAt}
-use Rattle.certificate.proofs.LineFacts.{lines-are}
+use Rattle.lines.specs.declared.frame.Frame.{Frame}
+use Rattle.lines.specs.Frame.{frameOf, linesAt}
+use Rattle.lines.proofs.LineFacts.{lines-are}
 
 -- the lines that a frame counts are the file's
 pub lines-counted : (cert : List ℕ) (f : Frame) (n property : ℕ) → f ≡ frameOf cert n property → f .base + f .step ≡ linesOf cert

@@ -1,5 +1,2 @@
-pub mod Checking
-pub mod Constants
-pub mod Frame
-pub mod Slots
+pub mod Opening
 pub mod Turned

@@ -1,6 +1,4 @@
 // The checks of lines and parts, put together to turns.
-use crate::frame::Frame;
-use crate::lines::line_fault;
 use crate::parts::has_empty;
 use crate::refusals;
 use crate::turned::Progress;
@@ -10,7 +8,9 @@ use crate::turned::refused;
 use answers::CertificateVerdict;
 use answers::Place;
 use answers::TurnVerdict;
-ghost use Prim.Native.Nat.{ℕ, _+_, _-_, _*_, _≤_, min};
+use lines::Frame;
+use lines::line_fault;
+ghost use Prim.Native.Nat.{ℕ, _+_, _*_, _≤_, min};
 ghost use mathlib.Core.Path.{_≡_};
 ghost use mathlib.Core.List.{List};
 ghost use lib.ListN.{length};
@@ -19,8 +19,8 @@ ghost use Rattle.constraints.specs.Rules.{typesOf};
 ghost use Rattle.rules.specs.Turns.{dueOf, nextLines, afterLines, linesTurn, moved};
 ghost use Rattle.rules.specs.Verdict.{typesOfNode, partsVerdict};
 ghost use Rattle.rules.specs.Versions.{version2};
-ghost use Rattle.certificate.specs.Checking.{Checking};
-ghost use Rattle.certificate.specs.Frame.{frameOf};
+ghost use Rattle.lines.specs.Checking.{Checking};
+ghost use Rattle.lines.specs.Frame.{frameOf};
 ghost use Rattle.certificate.specs.Turned.{nextAnswer, asTurn};
 
 // What lines in a row give: no line is refused, or the first that is.

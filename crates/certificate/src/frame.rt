@@ -1,25 +1,12 @@
-// What never changes while lines are checked, read once and passed by value.
+// What the checks of lines take of both files, read once.
 use constraints::Trailer;
 use constraints::block_at;
-ghost use Prim.Native.Nat.{_+_, _*_, _≤_};
+use lines::Frame;
+ghost use Prim.Native.Nat.{_≤_};
 ghost use mathlib.Core.Path.{_≡_};
 ghost use lib.ListN.{length};
-ghost use mir.Syntax.{w64};
-ghost use mir.Val.{Fits};
 ghost use Rattle.constraints.specs.Layout.{trailerOf, sizeOf, startOf};
-ghost use Rattle.certificate.specs.Frame.{frameOf};
-
-// Of the trailer, where constraint 0 and line 0 stand, and of the node.
-pub struct Frame {
-    pub depth: u8,
-    pub constraints: usize,
-    pub base: usize,
-    pub step: usize,
-    pub start: usize,
-    pub lines: usize,
-    pub streams: usize,
-    pub property: u16,
-}
+ghost use Rattle.lines.specs.Frame.{frameOf};
 
 // Where constraint 0 stands, which is where the note ends.
 pub fn start_of(cert: &[u8], t: Trailer) -> usize

@@ -1,17 +1,11 @@
-// The certificate checker.
+// The certificate checker: the whole file, from its opening through turns over its lines to the verdict.
 mod checker;
 mod constraint_rules;
-mod equations;
 mod file_note;
 mod frame;
-mod joins;
-mod lines;
 mod parts;
-mod property;
 mod reading;
 mod refusals;
-mod search;
-mod shape;
 mod turned;
 mod types;
 

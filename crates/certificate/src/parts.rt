@@ -7,7 +7,7 @@ ghost use mathlib.Core.Bool.{not};
 ghost use lib.ListN.{length};
 ghost use Rattle.answers.specs.Checks.{every};
 ghost use Rattle.rules.specs.Lines.{hasLiterals};
-ghost use Rattle.certificate.specs.Frame.{linesAt};
+ghost use Rattle.lines.specs.Frame.{linesAt};
 
 // Whether one of the n lines from `from` on has no literal, where line 0 stands at an offset. The last is looked at first, since
 // that is where most refutations end.

@@ -28,7 +28,7 @@ ghost use Rattle.constraints.specs.Rules.{typesOf};
 ghost use Rattle.rules.specs.Turns.{dueOf, thenTurn, linesTurn, moved, turnOf};
 ghost use Rattle.rules.specs.Verdict.{typesOfNode, constraintsVerdict, fileVerdict, verdictOf};
 ghost use Rattle.rules.specs.Versions.{version2};
-ghost use Rattle.certificate.specs.Checking.{NodePassed, FilePassed, openingOf};
+ghost use Rattle.certificate.specs.Opening.{NodePassed, FilePassed, openingOf};
 ghost use Rattle.certificate.specs.Turned.{asTurn};
 
 // What the checks of the certificate file and its constraints give: the trailer, or a refusal.

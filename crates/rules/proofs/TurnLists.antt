@@ -14,7 +14,7 @@ use Rattle.answers.specs.Answer.{Answer, accepted, refused, CertificateValues, 
 use Rattle.answers.specs.Checks.{Lowest}
 use Rattle.answers.proofs.Lowest.{none, found}
 use Rattle.rules.specs.Turns.{begunLine, mostLines, dueOf, moved, turnOf, lineAfter, checkedIn}
-use Rattle.rules.specs.TurnTheorems.{Says, EveryTurnsAgree, OneTurn}
+use Rattle.rules.specs.TurnTheorems.{TurnSays, EveryTurnsAgree, OneTurn}
 use Rattle.rules.specs.Verdict.{linesOf, lineFault, linePasses, partsVerdict, linesVerdict, beforeLines, verdictOf}
 use Rattle.rules.specs.Versions.{Version}
 use Rattle.rules.proofs.FileFacts.{file-facts, file-passed}
@@ -118,7 +118,7 @@ every-turns-agree version node cert quotas quota a e =
     record {
       as-one-call = subst (AsOneCall version node cert (Unit {0})) e (as-one-call version node cert (Unit {0}) line quota reached (λ _ _. tt));
       adds = λ {v} f.
-          let ended : Says cert line quota t (final (accepted v)) = subst (Says cert line quota t) (e ∙ ap final f) (keeps .says) in
+          let ended : TurnSays cert line quota t (final (accepted v)) = subst (TurnSays cert line quota t) (e ∙ ap final f) (keeps .says) in
           omega (arith, sum, keeps .move, ended .0);
     }
 

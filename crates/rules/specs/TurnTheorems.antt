@@ -19,13 +19,13 @@ pub record LineRules (version : Version) (node cert : List ℕ) (i : ℕ) : Type
   pub cut : lineOf cert i .head .kind ≡ 5 → cutPasses cert i ≡ true
 
 -- what a turn's answer says of its record and its number
-abbrev pub Says : (cert : List ℕ) → (line quota : ℕ) → Turn → TurnAnswer → Type 0
+abbrev pub TurnSays : (cert : List ℕ) → (line quota : ℕ) → Turn → TurnAnswer → Type 0
 -- "While lines are left the answer is "unfinished"": the whole quota was checked
-Says cert line quota t unfinished = (t .checked ≡ quota) × (t .line < linesOf cert)
+TurnSays cert line quota t unfinished = (t .checked ≡ quota) × (t .line < linesOf cert)
 -- an accepted turn leaves no line
-Says cert line quota t (final (accepted values)) = (t .line ≡ linesOf cert) × (values ≡ valuesOf cert)
+TurnSays cert line quota t (final (accepted values)) = (t .line ≡ linesOf cert) × (values ≡ valuesOf cert)
 -- "a refused turn returns its record unmoved, with 0"
-Says cert line quota t (final (refused number place)) = (t .line ≡ line) × (t .checked ≡ 0)
+TurnSays cert line quota t (final (refused number place)) = (t .line ≡ line) × (t .checked ≡ 0)
 
 -- what holds of a turn, whatever its files, its quota and its record, a forged one too
 pub record TurnKeeps (version : Version) (node cert : List ℕ) (line quota : ℕ) (t : Turn) : Type 0 where
@@ -34,7 +34,7 @@ pub record TurnKeeps (version : Version) (node cert : List ℕ) (line quota : �
   pub within : t .checked ≤ quota
   -- "Each line that a turn moves past meets its rules in that turn's files."
   pub passed : (i : ℕ) → line ≤ i → i < t .line → LineRules version node cert i
-  pub says : Says cert line quota t (t .answer)
+  pub says : TurnSays cert line quota t (t .answer)
 
 abbrev pub TurnsKeep : Version → Type 0
 TurnsKeep version = (node cert : List ℕ) (line quota : ℕ) → TurnKeeps version node cert line quota (turnOf version node cert line quota)

@@ -9,8 +9,8 @@ use Rattle.rules.specs.Turns.{dueOf, nextLines, afterLines, thenTurn, linesTurn
 use Rattle.rules.specs.Verdict.{linesOf}
 use Rattle.rules.specs.Versions.{version2}
 use Rattle.rules.proofs.Turns.{turn-past, turn-within}
+use Rattle.lines.proofs.LineFacts.{framed}
 use Rattle.certificate.specs.Turned.{nextAnswer}
-use Rattle.certificate.proofs.LineFacts.{framed}
 use Rattle.certificate.proofs.PartFacts.{lines-counted}
 use borrow.Author.Needs.{needs}
 use Rattle.certificate.proofs.checker.lines_turn.Statement.{statement}

@@ -10,7 +10,7 @@ use Rattle.constraints.specs.Layout.{lineOf}
 use Rattle.rules.specs.Lines.{hasEmpty}
 use Rattle.rules.specs.Verdict.{baseOf, stepOf, partsVerdict}
 use Rattle.rules.specs.Versions.{version2}
-use Rattle.certificate.specs.declared.frame.Frame.{Frame}
+use Rattle.lines.specs.declared.frame.Frame.{Frame}
 use Rattle.certificate.proofs.PartFacts.{empty-base, empty-step}
 use borrow.Author.Needs.{needs}
 use Rattle.certificate.proofs.checker.parts_verdict.Statement.{statement}

@@ -12,7 +12,7 @@ use denote.Ref.{now}
 use Rattle.answers.proofs.Every.{every-not, every-of}
 use Rattle.constraints.specs.declared.layout.LineHead.{LineHead}
 use Rattle.rules.specs.Lines.{hasLiterals}
-use Rattle.certificate.specs.Frame.{linesAt}
+use Rattle.lines.specs.Frame.{linesAt}
 use Rattle.certificate.proofs.parts.has_empty.Statement.{statement}
 use Rattle.certificate.proofs.parts.has_empty.Tie as tie
 

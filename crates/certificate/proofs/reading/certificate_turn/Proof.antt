@@ -9,7 +9,7 @@ use Rattle.constraints.specs.Rules.{typesOf}
 use Rattle.rules.specs.Verdict.{typesOfNode, fileVerdict}
 use Rattle.rules.specs.Versions.{version2}
 use Rattle.certificate.specs.declared.reading.Opened.the-variants.{Passed}
-use Rattle.certificate.specs.Checking.{openingOf}
+use Rattle.certificate.specs.Opening.{openingOf}
 use Rattle.certificate.proofs.Openings.{counted-streams, node-types, unopened, file-accepted, frame-room, checking}
 use borrow.Author.Needs.{needs}
 use Rattle.certificate.proofs.reading.certificate_turn.Statement.{statement}

@@ -1,0 +1,4 @@
+pub mod LineFacts
+pub mod NodeFacts
+pub mod SlotHalves
+pub mod Standing

@@ -1,0 +1,4 @@
+pub mod Checking
+pub mod Constants
+pub mod Frame
+pub mod Slots
