@@ -11,7 +11,9 @@ use Rattle.answers.specs.declared.InstantVerdict.{InstantVerdict}
 use Rattle.answers.specs.declared.InstantVerdict.the-variants.{Answered, Refused as NotAnswered}
 use Rattle.answers.specs.declared.ListedVerdict.{ListedVerdict}
 use Rattle.answers.specs.declared.ListedVerdict.the-variants.{Listed, Refused as NotListed}
-use Rattle.answers.specs.Answer.{NodeValues, CertificateValues, nodeAnswer, certificateAnswer, turnAnswer, instantAnswer, listedAnswer}
+use Rattle.answers.specs.declared.LookUpVerdict.{LookUpVerdict}
+use Rattle.answers.specs.declared.LookUpVerdict.the-variants.{Value, Refused as NotLookedUp}
+use Rattle.answers.specs.Answer.{NodeValues, CertificateValues, nodeAnswer, certificateAnswer, turnAnswer, instantAnswer, listedAnswer, lookUpAnswer}
 
 pub node-answer-tells : (v w : NodeVerdict) → nodeAnswer v ≡ nodeAnswer w → v ≡ w
 node-answer-tells (Accepted n p) (Accepted m q) e =
@@ -46,3 +48,9 @@ listed-answer-tells Listed Listed e = refl
 listed-answer-tells Listed (NotListed r at) e = cc
 listed-answer-tells (NotListed r at) Listed e = cc
 listed-answer-tells (NotListed r at) (NotListed s to) e = cc
+
+pub look-up-answer-tells : (v w : LookUpVerdict) → lookUpAnswer v ≡ lookUpAnswer w → v ≡ w
+look-up-answer-tells (Value x) (Value y) e = cc
+look-up-answer-tells (Value x) (NotLookedUp r at) e = cc
+look-up-answer-tells (NotLookedUp r at) (Value y) e = cc
+look-up-answer-tells (NotLookedUp r at) (NotLookedUp s to) e = cc

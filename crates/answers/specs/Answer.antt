@@ -1,7 +1,8 @@
 -- An answer as the paper gives it: accepted with its values, or refused with a number and a place. The promises of
--- reader, session, checker and flight list are stated by these, and not by the cases of the enums.
+-- reader, session, checker, flight list and look-up are stated by these, and not by the cases of the enums.
 use Prim.Native.Nat.{ℕ}
 use mathlib.Core.Bool.{Bool, true, false}
+use lib.IntN.{ℤ}
 use Rattle.answers.specs.declared.Place.{Place}
 use Rattle.answers.specs.declared.NodeVerdict.{NodeVerdict}
 use Rattle.answers.specs.declared.NodeVerdict.the-variants.{Accepted, Refused}
@@ -13,6 +14,8 @@ use Rattle.answers.specs.declared.InstantVerdict.{InstantVerdict}
 use Rattle.answers.specs.declared.InstantVerdict.the-variants.{Answered, Refused as NotAnswered}
 use Rattle.answers.specs.declared.ListedVerdict.{ListedVerdict}
 use Rattle.answers.specs.declared.ListedVerdict.the-variants.{Listed, Refused as NotListed}
+use Rattle.answers.specs.declared.LookUpVerdict.{LookUpVerdict}
+use Rattle.answers.specs.declared.LookUpVerdict.the-variants.{Value, Refused as NotLookedUp}
 
 -- "An answer is accepted .., or refused with a number and a place": A is what an accepted one carries
 pub data Answer (A : Type 0) : Type 0 where
@@ -64,3 +67,8 @@ instantAnswer (NotAnswered number place) = refused number place
 abbrev pub listedAnswer : ListedVerdict → Answer (Unit {0})
 listedAnswer Listed = accepted tt
 listedAnswer (NotListed number place) = refused number place
+
+-- an answered look-up carries the value
+abbrev pub lookUpAnswer : LookUpVerdict → Answer ℤ
+lookUpAnswer (Value x) = accepted x
+lookUpAnswer (NotLookedUp number place) = refused number place

@@ -1,4 +1,4 @@
-// The answers of reader, session, checker and flight list: accepted, or "refused with a number and a place". Each crate has the numbers of its
+// The answers of reader, session, checker, flight list and look-up: accepted, or "refused with a number and a place". Each crate has the numbers of its
 // own rules; specs/Answer.antt gives each case the number and the values that the published paper has for it.
 
 // The place of a refusal: "the file, a record, a constraint, a line or a part".
@@ -44,6 +44,12 @@ pub enum InstantVerdict {
 // The answer to a node's table of ranges: the node is listed, or the number of the first rule that is broken, and where.
 pub enum ListedVerdict {
     Listed,
+    Refused(usize, Place),
+}
+
+// The answer to a look-up: the value, or the number of the first rule that is broken, and where.
+pub enum LookUpVerdict {
+    Value(i64),
     Refused(usize, Place),
 }
 

@@ -1,7 +1,7 @@
 -- The answer to a call where a session stands: 30 passes, 31 to 33 ask of the record what they ask of the file, and 34 searches the
 -- solution's values.
 -- Assumes nothing.
-use mathlib.Core.Path.{_≡_, refl, sym, _∙_, ap, ap₂}
+use mathlib.Core.Path.{_≡_, refl, sym, _∙_, ap, ap₂, subst}
 use mathlib.Core.Bool.{Bool, true, false, not, _||_}
 use mathlib.Core.List.{List}
 use Prim.Native.Nat.{ℕ, _<_}
@@ -21,6 +21,7 @@ use Rattle.answers.proofs.Lowest.{none, all, lowest-same}
 use Rattle.node.specs.Equations.{typeAt, equationAt}
 use Rattle.node.specs.Inputs.{isInput, inputCount}
 use Rattle.node.specs.Layout.{streamsOf}
+use Rattle.node.specs.Order.{placeIn}
 use Rattle.node.specs.Reads.{orderOf}
 use Rattle.node.specs.Verdict.{verdictOf}
 use Rattle.node.proofs.Outcomes.{is-accepted}
@@ -94,6 +95,24 @@ module _ (file : List ℕ) {node : NodeValues} (e : verdictOf file ≡ accepted 
       by-check-all P (lowest (inputTyped file (c .inputs)) (streamsOf file)) 33 AtRecord _ (λ i f. not-answered) λ input.
       λ a. typed count input
 
+  -- and no value of an answered call is outside
+  given-inside : (values : Values) → answerGiven file c values ≡ accepted tt → (i : ℕ) → i < streamsOf file → inside (values i) ≡ true
+  unfolding firstOf
+  given-inside values =
+      let P : Answer (Unit {0}) → Type 0 = λ a. a ≡ accepted tt → (i : ℕ) → i < streamsOf file → inside (values i) ≡ true in
+      by-check P (eqb (length (c .inputs)) (inputCount file)) 31 File _ (λ f. not-answered) λ count.
+      by-check P (eqb (length (c .slice)) (streamsOf file)) 32 File _ (λ f. not-answered) λ room.
+      by-check-all P (lowest (inputTyped file (c .inputs)) (streamsOf file)) 33 AtRecord _ (λ i f. not-answered) λ input.
+      by-check-all P (firstAlong (orderOf file) (λ i. inside (values i))) 34 AtRecord _ (λ i f. not-answered) λ value.
+      λ a i l.
+      let ordered = accepted-well-formed file e .ordered in
+      subst (λ (k : ℕ). inside (values k) ≡ true) (ordered .at-place i l)
+      (all (λ k. inside (values (getD (orderOf file) k 0))) (length (orderOf file)) (no-place _ value) (placeIn (orderOf file) i) (omega (arith, ordered .size, ordered .has i l)))
+    where
+      no-place : (f : Found) → atPlace (orderOf file) f ≡ Nothing → f ≡ Nothing
+      no-place (At k) z = absurd (let w : _≡_ {A = ℕ} 0 1 = cc in omega arith)
+      no-place Nothing z = refl
+
   module _ (done : List Answered) (s : Session) (stands : Standing file done s) where
     -- the answer is the one for the values worked out
     answer-is : answerTo s c ≡ answerGiven file c (valuesIn (workedOut s (c .inputs)))
@@ -114,6 +133,9 @@ module _ (file : List ℕ) {node : NodeValues} (e : verdictOf file ≡ accepted 
 
     pub answered-typed : answerTo s c ≡ accepted tt → TypedInstant (nodeOf file) (c .inputs)
     answered-typed = rw answer-is (given-typed (valuesIn (workedOut s (c .inputs))))
+
+    pub answered-inside : answerTo s c ≡ accepted tt → (i : ℕ) → i < streamsOf file → inside (valuesIn (workedOut s (c .inputs)) i) ≡ true
+    answered-inside = rw answer-is (given-inside (valuesIn (workedOut s (c .inputs))))
 
 -- on every record an answered call's inputs are typed
 module _ (s : Session) (c : Call) where

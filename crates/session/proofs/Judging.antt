@@ -30,6 +30,22 @@ getD-within [] n d e l = absurd (not-suc-le-zero l)
 getD-within (x ∷ xs) zero d e l = refl
 getD-within (x ∷ xs) (suc n) d e l = getD-within xs n d e (le-of-suc-le-suc l)
 
+-- 0 fits every type
+module _ (file : List ℕ) where
+  abbrev pub noughts : List ℤ
+  noughts = replicate (inputCount file) (pos 0)
+
+  pub noughts-typed : TypedInstant (nodeOf file) noughts
+  noughts-typed =
+      record {
+        count = length-replicate (inputCount file) (pos 0);
+        fits = λ i l is. subst (Fits (typeAt file i)) (sym (same-everywhere (inputCount file) (inputsBelow file i) (pos 0))) (fits-test (typeAt file i) (pos 0) .0 (nought-fits (typeAt file i)));
+      }
+    where
+      nought-fits : (ty : StreamType) → fitsTest ty (pos 0) ≡ true
+      nought-fits BoolType = refl
+      nought-fits IntType = refl
+
 module _ (file : List ℕ) {node : NodeValues} (e : verdictOf file ≡ accepted node) (done : List Answered) (typed : (t : ℕ) → t < length done → TypedInstant (nodeOf file) (call done t .inputs)) where
   module _ (next : List ℤ) (next-typed : TypedInstant (nodeOf file) next) where
     -- the answered inputs, then the next for ever
@@ -61,21 +77,5 @@ module _ (file : List ℕ) {node : NodeValues} (e : verdictOf file ≡ accepted 
           ),
         )
 
-  -- 0 fits every type
-  noughts : List ℤ
-  noughts = replicate (inputCount file) (pos 0)
-
-  noughts-typed : TypedInstant (nodeOf file) noughts
-  unfolding noughts
-  noughts-typed =
-      record {
-        count = length-replicate (inputCount file) (pos 0);
-        fits = λ i l is. subst (Fits (typeAt file i)) (sym (same-everywhere (inputCount file) (inputsBelow file i) (pos 0))) (fits-test (typeAt file i) (pos 0) .0 (nought-fits (typeAt file i)));
-      }
-    where
-      nought-fits : (ty : StreamType) → fitsTest ty (pos 0) ≡ true
-      nought-fits BoolType = refl
-      nought-fits IntType = refl
-
   pub solved : (v : Streams) × Solves file done v
-  solved = let found = solved-on noughts noughts-typed in (found .0, found .1 .0)
+  solved = let found = solved-on (noughts file) (noughts-typed file) in (found .0, found .1 .0)

@@ -2,12 +2,14 @@
 -- Assumes nothing.
 use mathlib.Core.Path.{_≡_, sym, _∙_, ap, subst}
 use mathlib.Core.Logic.{_⊎_, inl, inr}
+use mathlib.Core.Bool.{true}
 use mathlib.Core.List.{List, [], _∷_, _++_}
 use Prim.Native.Nat.{ℕ, suc, _<_, _≤_}
 use native.Mathlib.Nat.{not-suc-le-zero, eq-or-lt-of-le, le-of-suc-le-suc}
 use native.Mathlib.Omega.{arith}
 use lib.ListN.{length, length-append, List·getD-append}
 use lib.Seq.{getD-append-seam}
+use Rattle.integers.specs.Range.{inside}
 use Rattle.answers.specs.Answer.{accepted, NodeValues}
 use Rattle.node.specs.Layout.{streamsOf}
 use Rattle.node.specs.Verdict.{verdictOf}
@@ -24,6 +26,7 @@ shows-none file e =
     record {
       typed = λ t l. absurd (not-suc-le-zero l);
       sized = λ t l. absurd (not-suc-le-zero l);
+      ranged = λ t l. absurd (not-suc-le-zero l);
       solved = solved file e [] (λ t l. absurd (not-suc-le-zero l));
       shown = λ t l. absurd (not-suc-le-zero l);
     }
@@ -61,12 +64,13 @@ module _ (done : List Answered) (a : Answered) where
         → (v : Streams) → Solution (nodeOf file) u v
         → (i : ℕ) → i < streamsOf file → valuesIn (x .values) i ≡ v t i
 
-    pub shows-more : Shows file done → TypedInstant (nodeOf file) (a .inputs) → length (a .values) ≡ streamsOf file → ShownAt more (length done) a → Shows file more
-    shows-more shows typed sized shown =
+    pub shows-more : Shows file done → TypedInstant (nodeOf file) (a .inputs) → length (a .values) ≡ streamsOf file → ((i : ℕ) → i < streamsOf file → inside (valuesIn (a .values) i) ≡ true) → ShownAt more (length done) a → Shows file more
+    shows-more shows typed sized ranged shown =
         let all-typed = by-call (λ t x. TypedInstant (nodeOf file) (x .inputs)) (shows .typed) typed in
         record {
           typed = all-typed;
           sized = by-call (λ t x. length (x .values) ≡ streamsOf file) (shows .sized) sized;
+          ranged = by-call (λ t x. (i : ℕ) → i < streamsOf file → inside (valuesIn (x .values) i) ≡ true) (shows .ranged) ranged;
           solved = solved file e more all-typed;
           shown = by-call (ShownAt more) (λ t l u of-u starts. shows .shown t l u of-u (starts-before (suc t) l u starts)) shown;
         }

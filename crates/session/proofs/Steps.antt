@@ -9,6 +9,7 @@ use native.Mathlib.Nat.{le-refl}
 use native.Mathlib.Omega.{arith}
 use lib.IntN.{ℤ, pos}
 use lib.ListN.{length, List·getD-append}
+use Rattle.integers.specs.Range.{inside}
 use Rattle.answers.specs.Answer.{Answer, accepted, refused, NodeValues, ifAccepted}
 use Rattle.node.specs.Layout.{streamsOf}
 use Rattle.node.specs.Verdict.{verdictOf}
@@ -25,7 +26,7 @@ use Rattle.session.specs.Lists.{Call, Answered, answerTo, sliceAfter, to
 use Rattle.session.specs.Records.{begun, begunOf, untried}
 use Rattle.session.specs.Theorems.{StartsWith, Shows}
 use Rattle.session.proofs.Answering.{commit-held}
-use Rattle.session.proofs.CallAnswers.{answered-typed}
+use Rattle.session.proofs.CallAnswers.{answered-typed, answered-inside}
 use Rattle.session.proofs.JustBegun.{begun-runs}
 use Rattle.session.proofs.Showing.{more-length, call-own, starts-before, shows-more}
 use Rattle.session.proofs.Standing.{Standing, HoldsTrial, TrialStands, RunStands, worked-out-length, worked-out-is}
@@ -57,6 +58,7 @@ module _ (file : List ℕ) {node : NodeValues} (e : verdictOf file ≡ accepted 
     trial-shows =
         shows-more done (told s c) file e (stands .shows) typed
         (ap length slice-is ∙ worked-out-length file e done s stands (c .inputs))
+        (λ i l. ap (λ (k : List ℤ). inside (valuesIn k i)) slice-is ∙ answered-inside file e c done s stands is-answered i l)
         (λ u of-u starts v solves i l. ap (λ (k : List ℤ). valuesIn k i) slice-is ∙ worked-is u starts v solves i l)
 
     trial-held : HoldsTrial file done (tried s (c .inputs)) (told s c)

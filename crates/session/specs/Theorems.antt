@@ -45,6 +45,8 @@ pub record Solves (file : List ℕ) (done : List Answered) (v : Streams) : Type 
 pub record Shows (file : List ℕ) (done : List Answered) : Type 0 where
   pub typed : (t : ℕ) → t < length done → TypedInstant (nodeOf file) (call done t .inputs)
   pub sized : (t : ℕ) → t < length done → length (call done t .values) ≡ streamsOf file
+  -- none is past 64 signed bits
+  pub ranged : (t : ℕ) → t < length done → (i : ℕ) → i < streamsOf file → inside (valuesIn (call done t .values) i) ≡ true
   pub solved : (v : Streams) × Solves file done v
   pub shown :
       (t : ℕ) → t < length done
