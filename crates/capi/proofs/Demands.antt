@@ -1,8 +1,13 @@
 -- Demands 2 and 3 of the exported calls, and listed nodes, from what is proved of the calls below them.
 -- Assumes nothing.
 use mathlib.Core.Path.{_≡_, refl, ap}
+use mathlib.Core.Logic.{_⊎_, inl, inr}
 use mathlib.Core.Bool.{true, false≢true}
+use Prim.Native.Nat.{ℕ}
+use native.Mathlib.Omega.{arith}
+use lib.IntN.{ℤ}
 use Rattle.answers.specs.Answer.{Answer, accepted, refused, isAccepted, CertificateValues, TurnAnswer, final, unfinished}
+use Rattle.node.specs.Equations.{equationAt}
 use Rattle.node.specs.Verdict.{verdictOf as nodeVerdict}
 use Rattle.rules.specs.Turns.{begunLine, turnOf, lineAfter}
 use Rattle.rules.specs.Verdict.{verdictOf}
@@ -10,12 +15,18 @@ use Rattle.rules.specs.Versions.{version2}
 use Rattle.rules.proofs.TurnLists.{every-turns-agree}
 use Rattle.session.proofs.Sessions.{sessions-exact}
 use Rattle.node.proofs.Outcomes.{keeps-accepted}
+use Rattle.streams.specs.Solutions.{Streams}
+use Rattle.histories.specs.Theorems.{SolvesHistory}
+use Rattle.look_up.specs.Visited.{VisitedInside, VisitedOutside}
+use Rattle.look_up.specs.LookUp.{lookUpOf}
+use Rattle.look_up.specs.Theorems.{Asked}
+use Rattle.look_up.proofs.LookUps.{look-ups-exact}
 use Rattle.ranges.specs.Listing.{listingOf}
 use Rattle.ranges.proofs.Outcomes.{listed-keeps}
 use Rattle.ranges.proofs.Sessions.{sessions-inside}
 use Rattle.soundness.proofs.Demands.{demand-3, turns-demand-3}
-use Rattle.capi.specs.Answers.{toldNode, toldCertificate, toldAnswer, toldTurn}
-use Rattle.capi.specs.Theorems.{ExportedSessionsExact, ExportedDemand3, ExportedTurnsDemand3, ExportedSessionsInside}
+use Rattle.capi.specs.Answers.{toldNode, toldCertificate, toldAnswer, toldTurn, toldLookUp}
+use Rattle.capi.specs.Theorems.{ExportedSessionsExact, ExportedDemand3, ExportedTurnsDemand3, ExportedSessionsInside, ExportedLookUps}
 use Rattle.capi.proofs.Zero.{zero}
 
 accepted-with : {A : Type 0} (a : Answer A) → isAccepted a ≡ true → (v : A) × (a ≡ accepted v)
@@ -62,3 +73,14 @@ exported-sessions-inside file table told before events =
     let listed = accepted-with (listingOf file table) (zero .ranges file table told) in
     let node = keeps-accepted file (listed-keeps file table (listed .1) .node) in
     (ap (λ a. toldNode a .number) node, sessions-inside file table (listed .1) before events)
+
+pub exported-look-ups : ExportedLookUps
+unfolding toldLookUp toldNode
+exported-look-ups file count inputs stream instant told =
+    let found = accepted-with (lookUpOf file count inputs stream instant) (zero .look-up file count inputs stream instant told) in
+    let asked = look-ups-exact .asked file count inputs stream instant (found .0) (found .1) in
+    (ap (λ a. toldNode a .number) (asked .accepts), asked, look-ups-exact .looks-up file count inputs stream instant asked, λ v solves. go v solves (found .0) (found .1) asked (look-ups-exact .looks-up file count inputs stream instant asked .either v solves))
+  where
+    go : (v : Streams) → SolvesHistory file count inputs v → (x : ℤ) → lookUpOf file count inputs stream instant ≡ accepted x → Asked file count inputs stream instant → VisitedInside (equationAt file) v instant stream ⊎ VisitedOutside (equationAt file) v instant stream → toldLookUp (lookUpOf file count inputs stream instant) .value ≡ v instant stream
+    go v solves x e asked (inl all) = ap (λ a. toldLookUp a .value) (look-ups-exact .looks-up file count inputs stream instant asked .gives v solves all)
+    go v solves x e asked (inr some) = absurd (let r = look-ups-exact .looks-up file count inputs stream instant asked .refuses v solves some in let z : _≡_ {A = ℕ} 0 1 = cc in omega arith)

@@ -4,12 +4,14 @@ use mathlib.Core.Path.{_≡_, refl, sym, _∙_, ap, ap₂}
 use mathlib.Core.List.{[], _∷_}
 use Prim.Native.Nat.{ℕ}
 use native.Mathlib.Omega.{arith}
+use lib.IntN.{ℤ}
 use lib.ListN.{getD}
 use Rattle.answers.specs.declared.Place.{Place}
 use Rattle.answers.specs.declared.Place.the-variants.{File, Record, Constraint, Line, Base, Step}
 use Rattle.answers.specs.Answer.{Answer, accepted, refused, NodeValues, CertificateValues, TurnAnswer, final, unfinished}
 use Rattle.capi.specs.declared.told.Told.{Told}
-use Rattle.capi.specs.Answers.{placeNumber, placeIndex, toldAccepted, toldOf, toldRefused, toldNode, toldCertificate, toldPlain, toldUnfinished, toldAnswer}
+use Rattle.capi.specs.declared.look_ups.ToldLookUp.{ToldLookUp}
+use Rattle.capi.specs.Answers.{placeNumber, placeIndex, toldAccepted, toldOf, toldRefused, toldNode, toldCertificate, toldPlain, toldUnfinished, toldAnswer, toldLookUp}
 use Rattle.capi.specs.Theorems.{Tells, NumbersTell}
 
 -- the place that a number and an index tell
@@ -65,6 +67,14 @@ unfolding toldCertificate
 certificate-tells =
     tells (λ (v : CertificateValues). toldAccepted (v .depth) (v .base) (v .step)) (λ _. refl) (λ a b e i. record { depth = e i .first; base = e i .second; step = e i .third })
 
+-- the value beside the answer tells an accepted look-up's
+look-up-tells : (a b : Answer ℤ) → toldLookUp a ≡ toldLookUp b → a ≡ b
+unfolding toldLookUp
+look-up-tells (accepted x) (accepted y) e = ap accepted (ap (λ (t : ToldLookUp). t .value) e)
+look-up-tells (accepted x) (refused n p) e = absurd (place-is-some p (sym (ap (λ (t : ToldLookUp). t .answer .place) e)))
+look-up-tells (refused n p) (accepted y) e = absurd (place-is-some p (ap (λ (t : ToldLookUp). t .answer .place) e))
+look-up-tells (refused n p) (refused m q) e = let s = refusal-tells n m p q (ap (λ (t : ToldLookUp). t .answer) e) in ap₂ refused (s .0) (s .1)
+
 pub numbers-tell : NumbersTell
 unfolding toldNode toldPlain
 numbers-tell =
@@ -73,4 +83,5 @@ numbers-tell =
       certificate = certificate-tells;
       turn = turn-tells certificate-tells;
       plain = tells (λ (_ : Unit {0}). toldAccepted 0 0 0) (λ _. refl) (λ a b e. refl);
+      look-up = look-up-tells;
     }

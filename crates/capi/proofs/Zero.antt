@@ -3,7 +3,7 @@
 use mathlib.Core.Path.{_≡_, refl, subst}
 use mathlib.Core.Bool.{Bool, true, false, not}
 use mathlib.Core.List.{List}
-use Prim.Native.Nat.{ℕ, _+_, _<_}
+use Prim.Native.Nat.{ℕ, _+_, _*_, _<_}
 use native.Mathlib.Omega.{arith}
 use borrow.Author.Tests.{eqb-false}
 use lib.Dec.{eqb}
@@ -17,6 +17,7 @@ use Rattle.answers.specs.Answer.{Answer, accepted, refused, isAccepted, NodeVal
 use Rattle.answers.specs.Checks.{check, checkAll, every, lowest, andThen}
 use Rattle.answers.proofs.Lowest.{first}
 use Rattle.node.specs.declared.reading.RecordRule.the-variants.{Shape, Operands, Types}
+use Rattle.node.specs.Equations.{equationAt}
 use Rattle.node.specs.Inputs.{inputCount}
 use Rattle.node.specs.Layout as node-layout
 use Rattle.node.specs.Layout.{streamsOf, propertyOf}
@@ -28,6 +29,9 @@ use Rattle.streams.specs.Instant.{inputFits, valueInside, firstAlong}
 use Rattle.session.specs.declared.Session.{Session}
 use Rattle.session.specs.Instants.{workedOut, answerOf, commitAnswer}
 use Rattle.session.specs.Records.{heldFile, untried, holdsNode}
+use Rattle.histories.specs.History.{countOk, badInput, historyValues}
+use Rattle.look_up.specs.Visited.{insideIn}
+use Rattle.look_up.specs.LookUp.{isIn, valueAnswer, historyAnswer, lookUpOf}
 use Rattle.ranges.specs.Listing.{lengthOk as tableLengthOk, endsOk, resultsOk, tableVerdict, listingOf}
 use Rattle.constraints.specs.Layout.{trailerOf, lineOf}
 use Rattle.constraints.specs.Rules.{fixedOk, countsOk, distanceOk}
@@ -37,7 +41,7 @@ use Rattle.rules.specs.Verdict.{linesOf, baseOf, stepOf, constraintPasses, line
 use Rattle.rules.specs.Versions.{version2}
 use Rattle.rules.proofs.Turns.{moved-answer, by-turn}
 use Rattle.capi.specs.declared.told.Told.{Told}
-use Rattle.capi.specs.Answers.{toldAccepted, toldOf, toldNode, toldCertificate, toldPlain, toldAnswer, toldTurn}
+use Rattle.capi.specs.Answers.{toldAccepted, toldOf, toldNode, toldCertificate, toldPlain, toldAnswer, toldTurn, toldLookUp}
 use Rattle.capi.specs.Theorems.{ZeroAccepts}
 
 -- a refusal's number is above 0
@@ -179,6 +183,21 @@ listing-numbered file table =
     (tested-all (lowest (resultsOk file table) n) 72 AtRecord _ (omega arith)
     (none _))))
 
+look-up-numbered : (file : List ℕ) (count : ℕ) (inputs : List ℤ) (stream instant : ℕ) → Numbered (lookUpOf file count inputs stream instant)
+unfolding lookUpOf historyAnswer valueAnswer
+look-up-numbered file count inputs stream instant =
+    after (nodeVerdict file) (historyAnswer file count inputs stream instant) (node-numbered file)
+    (tested (countOk count (inputCount file) inputs) 31 File _ (omega arith)
+    (tested-all (badInput file inputs count) 33 AtRecord _ (omega arith)
+    (tested (isIn (streamsOf file) count stream instant) 65 File _ (omega arith)
+    (tested (insideIn (equationAt file) (historyValues file count inputs) (16 * 64) instant stream) 34 (AtRecord stream) _ (omega arith)
+    (none _)))))
+
+look-up-accepts : (a : Answer ℤ) → Numbered a → toldLookUp a .answer .number ≡ 0 → isAccepted a ≡ true
+unfolding toldLookUp
+look-up-accepts (accepted x) n e = refl
+look-up-accepts (refused number place) n e = absurd (not-zero _ number place n e)
+
 turn-accepts : (a : TurnAnswer) → TurnNumbered a → toldAnswer a .number ≡ 0 → (v : CertificateValues) × (a ≡ final (accepted v))
 unfolding TurnNumbered toldAnswer toldCertificate
 turn-accepts (final (accepted v)) n e = (v, refl)
@@ -199,4 +218,5 @@ zero =
       instant = λ s inputs room. zero-accepts (λ (_ : Unit {0}). toldAccepted 0 0 0) (answerOf s inputs room) (instant-numbered s inputs room);
       commit = λ s. zero-accepts (λ (_ : Unit {0}). toldAccepted 0 0 0) (commitAnswer s) (commit-numbered s);
       ranges = λ file table. zero-accepts (λ (_ : Unit {0}). toldAccepted 0 0 0) (listingOf file table) (listing-numbered file table);
+      look-up = λ file count inputs stream instant. look-up-accepts (lookUpOf file count inputs stream instant) (look-up-numbered file count inputs stream instant);
     }

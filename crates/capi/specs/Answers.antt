@@ -1,11 +1,13 @@
 -- An answer in numbers. 0 stands for accepted, and for no place; a refusal has the paper's number.
 use Prim.Native.Nat.{ℕ}
+use lib.IntN.{ℤ, pos}
 use Rattle.answers.specs.declared.Place.{Place}
 use Rattle.answers.specs.declared.Place.the-variants.{File, Record, Constraint, Line, Base, Step}
 use Rattle.answers.specs.Answer.{Answer, accepted, refused, NodeValues, CertificateValues, TurnAnswer, final, unfinished}
 use Rattle.rules.specs.Turns.{Turn}
 use Rattle.capi.specs.declared.told.Told.{Told}
 use Rattle.capi.specs.declared.turns.ToldTurn.{ToldTurn}
+use Rattle.capi.specs.declared.look_ups.ToldLookUp.{ToldLookUp}
 
 abbrev pub placeNumber : Place → ℕ
 placeNumber File = 1
@@ -61,3 +63,8 @@ toldAnswer unfinished = toldUnfinished
 -- a turn: its answer, the record and the number checked
 unfoldable pub toldTurn : Turn → ToldTurn
 toldTurn t = record { answer = toldAnswer (t .answer); progress = record { line = t .line }; checked = t .checked }
+
+-- a look-up: its answer without values, and beside it the value, 0 where it is refused
+unfoldable pub toldLookUp : Answer ℤ → ToldLookUp
+toldLookUp (accepted x) = record { answer = toldAccepted 0 0 0; value = x }
+toldLookUp (refused number place) = record { answer = toldRefused number place; value = pos 0 }

@@ -7,6 +7,10 @@ use lib.IntN.{ℤ}
 use Rattle.answers.specs.Answer.{Answer, accepted, isAccepted, CertificateValues, TurnAnswer, final}
 use Rattle.node.specs.Reads.{All}
 use Rattle.node.specs.Verdict.{verdictOf as nodeVerdict}
+use Rattle.streams.specs.Solutions.{Streams}
+use Rattle.histories.specs.Theorems.{SolvesHistory}
+use Rattle.look_up.specs.LookUp.{lookUpOf}
+use Rattle.look_up.specs.Theorems.{Asked, LooksUp}
 use Rattle.session.specs.declared.Session.{Session}
 use Rattle.session.specs.Events.{Event, begunRun, afterEvents, lastRun, runs}
 use Rattle.session.specs.Instants.{answerOf, commitAnswer}
@@ -19,7 +23,7 @@ use Rattle.ranges.specs.Listing.{listingOf}
 use Rattle.ranges.specs.Theorems.{StaysInside}
 use Rattle.soundness.specs.Demands.{Demanded}
 use Rattle.capi.specs.declared.told.Told.{Told}
-use Rattle.capi.specs.Answers.{toldNode, toldCertificate, toldPlain, toldAnswer, toldTurn}
+use Rattle.capi.specs.Answers.{toldNode, toldCertificate, toldPlain, toldAnswer, toldTurn, toldLookUp}
 
 -- no two answers have the same numbers
 abbrev pub Tells : {A : Type 0} → (Answer A → Told) → Type 0
@@ -30,6 +34,7 @@ pub record NumbersTell : Type 0 where
   pub certificate : Tells toldCertificate
   pub turn : (a b : TurnAnswer) → toldAnswer a ≡ toldAnswer b → a ≡ b
   pub plain : Tells toldPlain
+  pub look-up : (a b : Answer ℤ) → toldLookUp a ≡ toldLookUp b → a ≡ b
 
 -- number 0 says accepted
 pub record ZeroAccepts : Type 0 where
@@ -40,6 +45,7 @@ pub record ZeroAccepts : Type 0 where
   pub instant : (s : Session) (inputs : List ℤ) (room : ℕ) → toldPlain (answerOf s inputs room) .number ≡ 0 → isAccepted (answerOf s inputs room) ≡ true
   pub commit : (s : Session) → toldPlain (commitAnswer s) .number ≡ 0 → isAccepted (commitAnswer s) ≡ true
   pub ranges : (file : List ℕ) (table : List ℤ) → toldPlain (listingOf file table) .number ≡ 0 → isAccepted (listingOf file table) ≡ true
+  pub look-up : (file : List ℕ) (count : ℕ) (inputs : List ℤ) (stream instant : ℕ) → toldLookUp (lookUpOf file count inputs stream instant) .answer .number ≡ 0 → isAccepted (lookUpOf file count inputs stream instant) ≡ true
 
 -- demand 2 of the exported calls, whatever bytes the record held: what is told of a call is told of the answer that `ExactNext` gives
 abbrev pub ExportedSessionsExact : Type 0
@@ -80,3 +86,15 @@ ExportedSessionsInside =
     → let s = begunOf file before in
     let r = lastRun s (begunRun file) events in
     (toldNode (nodeVerdict file) .number ≡ 0) × (r .node ≡ file → StaysInside file table (afterEvents s events) r)
+
+-- look-ups by the exported call: where the number is 0, the value is that of every solution on inputs that start with the history, of
+-- which there is one; the beginning's number is 0 too
+abbrev pub ExportedLookUps : Type 0
+ExportedLookUps =
+    (file : List ℕ) (count : ℕ) (inputs : List ℤ) (stream instant : ℕ)
+    → let told = toldLookUp (lookUpOf file count inputs stream instant) in
+    told .answer .number ≡ 0
+    → (toldNode (nodeVerdict file) .number ≡ 0)
+    × Asked file count inputs stream instant
+    × LooksUp file count inputs stream instant
+    × ((v : Streams) → SolvesHistory file count inputs v → told .value ≡ v instant stream)

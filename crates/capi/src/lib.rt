@@ -1,6 +1,7 @@
-// The calls as C and Rust link them: over `node`, `session`, `certificate` and `ranges`, with answers in numbers.
+// The calls as C and Rust link them: over `node`, `session`, `certificate`, `ranges` and `look_up`, with answers in numbers.
 mod files;
 mod lent;
+mod look_ups;
 mod told;
 mod turns;
 
@@ -13,6 +14,8 @@ pub use lent::conuhawe_begin;
 pub use lent::conuhawe_commit;
 pub use lent::conuhawe_instant;
 pub use lent::conuhawe_trial;
+pub use look_ups::ToldLookUp;
+pub use look_ups::conuhawe_look_up;
 pub use told::Told;
 pub use turns::ToldTurn;
 pub use turns::conuhawe_turn;

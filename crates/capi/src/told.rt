@@ -46,7 +46,7 @@ fn place_index(place: Place) -> usize
     }
 }
 
-fn accepted(first: usize, second: usize, third: usize) -> Told
+pub fn accepted(first: usize, second: usize, third: usize) -> Told
     ensures { λ r. ⌜ r ≡ toldAccepted first second third ⌝ }
 {
     Told {
@@ -59,7 +59,7 @@ fn accepted(first: usize, second: usize, third: usize) -> Told
     }
 }
 
-fn refused(number: usize, place: Place) -> Told
+pub fn refused(number: usize, place: Place) -> Told
     ensures { λ r. ⌜ r ≡ toldRefused number place ⌝ }
 {
     Told {

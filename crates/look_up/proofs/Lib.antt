@@ -1,0 +1,9 @@
+pub mod Agreeing
+pub mod Answers
+pub mod Combining
+pub mod Falling
+pub mod LookUps
+pub mod Rows
+pub mod Steps
+pub mod Tables
+pub mod Within
