@@ -1,6 +1,7 @@
 #!/usr/bin/env python3
 """Writes the folders of examples: node.bin, cert.bin, the verdict line and a page on each, and a page on all; of those for the
-flight list also table.bin and the line of the check of ranges, and of those with a pass also pass.bin and the lines on it.
+flight list also table.bin and the line of the check of ranges, of those with a pass also pass.bin and the lines on it, and of
+those with a history also history.bin, questions.bin and the lines on these.
 
     python3 tools/make_examples.py
 
@@ -12,6 +13,7 @@ from dataclasses import dataclass
 
 import booking_proofs
 import duty_proofs
+import examiner_proofs
 import example_proofs
 import flight_proofs
 import half_minute_proofs
@@ -20,18 +22,54 @@ import parity_proofs
 import set_up_proofs
 from archived_files import archived_file
 from certificate_files import Certificate
+from look_up_files import history_file, questions_file
 from node_files import ROOT, node, table
 from pass_files import COMMIT, OLD, TRIAL, pass_file
 
 NODES = {**example_proofs.NODES, **booking_proofs.NODES, **parity_proofs.NODES, **half_minute_proofs.NODES, **order_proofs.NODES,
-         **flight_proofs.NODES, **set_up_proofs.NODES, **duty_proofs.NODES, "forged": node(booking_proofs.LATE, 3),
-         "archived-two-bands": example_proofs.NODES["two-bands"]}
+         **flight_proofs.NODES, **set_up_proofs.NODES, **duty_proofs.NODES, **examiner_proofs.NODES,
+         "forged": node(booking_proofs.LATE, 3), "archived-two-bands": example_proofs.NODES["two-bands"]}
 TYPES = ("bool", "int")
 # by operator
 EQUATIONS = ("input", "{k}", "not {a}", "{a} and {b}", "{a} or {b}", "{a} same as {b}", "{a} + {b}", "{a} - {b}", "{k} * {a}",
              "{a} at most {b}", "{a} equal to {b}", "if {c} then {a} else {b}", "{a} -> {b}", "{a} -> pre {b}",
              "lesser of {a} and {b}", "greater of {a} and {b}")
 WORDS = {OLD: "old call", TRIAL: "trial", COMMIT: "commit"}
+
+
+@dataclass(frozen=True)
+class Examined:
+    """A history, which has the inputs of each instant, and questions on it, each stream, instant and answer. The texts are on the
+    two, and `shows` on each question."""
+    history: tuple
+    history_says: str
+    questions: tuple
+    questions_say: str
+    shows: tuple
+
+    def printed(self):
+        """The lines on the questions."""
+        return [f"questions.bin: instants {len(self.history)} inputs {sum(map(len, self.history))}",
+                *[f"stream {stream} instant {instant}: {answer}" for stream, instant, answer in self.questions]]
+
+    def page(self, inputs):
+        """The part of the folder's page; the inputs are by name."""
+        instants = [(instant, *row) for instant, row in enumerate(self.history)]
+        questions = [(f"`{line}`", shown) for line, shown in zip(self.printed()[1:], self.shows, strict=True)]
+        return "\n\n".join([
+            wrapped(f"History: {self.history_says}"), rows_under(("Instant", *[f"`{name}`" for name in inputs]), instants),
+            wrapped(f"Questions: {self.questions_say}"), rows_under(("Line", "What it shows"), questions)])
+
+
+def records_of(name):
+    """The records of an example's node file."""
+    return list(struct.iter_unpack("<BBHHHiI", NODES[name][:-16]))
+
+
+def rows_under(heading, rows):
+    """A table."""
+    return "\n".join([f"| {' | '.join(heading)} |", "|---" * len(heading) + "|",
+                      *[f"| {' | '.join(map(str, row))} |" for row in rows]])
 
 
 @dataclass(frozen=True)
@@ -57,16 +95,20 @@ class Example:
     events: tuple = ()
     pass_says: str = ""
     shows: tuple = ()
+    examined: Examined | None = None
 
     def equations(self):
         """The rows of a table, one a stream, from the records of the node file; a stream is called by its name."""
         names = [name for name, _ in self.streams]
-        records = struct.iter_unpack("<BBHHHiI", NODES[self.name][:-16])
-        for i, ((op, kind, a, b, c, k, _), (name, meaning)) in enumerate(zip(records, self.streams, strict=True)):
+        records = zip(records_of(self.name), self.streams, strict=True)
+        for i, ((op, kind, a, b, c, k, _), (name, meaning)) in enumerate(records):
             constant = ("false", "true")[k] if (op, kind) == (1, 0) else k
             equation = EQUATIONS[op].format(a=names[a], b=names[b], c=names[c], k=constant)
             ends = "{} to {} | ".format(*self.ranges[i]) if self.ranges else ""
             yield f"| {i} | {TYPES[kind]} | `{name}` = {equation} | {ends}{meaning} |"
+
+    def inputs(self):
+        return [name for (name, _), record in zip(self.streams, records_of(self.name), strict=True) if record[0] == 0]
 
     def heading(self):
         columns = ["Stream", "Type", "Equation", *["Range"] * bool(self.ranges), "What it is"]
@@ -85,9 +127,8 @@ class Example:
     def passing(self):
         """The table of events, where there is a pass."""
         calls = [f"{WORDS[kind]} {', '.join(map(str, inputs))}".strip() for kind, inputs, _ in self.events]
-        rows = [f"| {call} | `{line}` | {shown} |"
-                for call, line, shown in zip(["beginning", *calls], self.printed(), self.shows, strict=True)]
-        return "\n".join(["| Event | Line | What it shows |", "|---|---|---|", *rows])
+        lines = [f"`{line}`" for line in self.printed()]
+        return rows_under(("Event", "Line", "What it shows"), zip(["beginning", *calls], lines, self.shows, strict=True))
 
     def certificate_file(self):
         return self.certificate if isinstance(self.certificate, bytes) else self.certificate.file()
@@ -97,7 +138,8 @@ class Example:
                  wrapped(f"Property: {self.prop}"), wrapped(f"Depth: {self.depth}"), wrapped(f"Certificate: {self.argument}"),
                  self.listing(), wrapped(self.aside), wrapped(f"Table: {self.ranges_say}") if self.ranges else "",
                  f"Listed: `{self.listed}`" if self.ranges else "", wrapped(f"Pass: {self.pass_says}") if self.events else "",
-                 self.passing() if self.events else "", f"Verdict: `{self.verdict}`"]
+                 self.passing() if self.events else "", self.examined.page(self.inputs()) if self.examined else "",
+                 f"Verdict: `{self.verdict}`"]
         return "\n\n".join(part for part in parts if part) + "\n"
 
 
@@ -434,6 +476,42 @@ EXAMPLES = (
                "a trial and its commit in one, instant 1: 10 minutes are left, too few for the first band's 20, and the second is "
                "granted 5 of them")),
     Example(
+        "one-value", "One value of a pass",
+        """Two bands of one dish are each licensed for 40 minutes an instant. A band that asks for no more is booked, in seconds; one
+        that asks for more gets none. Asking for a negative number gives minutes back. What is booked is added up over the pass,
+        and later an examiner asks for single values of it.""",
+        (("first", "minutes that the first band asks for"), ("second", "minutes that the second asks for"),
+         ("licence", "the most minutes that a band is licensed for at one instant"), ("none", "a constant"),
+         ("first licensed", "the first is licensed for its own"), ("second licensed", "the second is licensed for its own"),
+         ("first seconds", "the first's minutes in seconds"), ("second seconds", "the second's"),
+         ("first booked", "seconds that are booked for the first"), ("second booked", "those for the second"),
+         ("booked", "seconds booked at this instant"), ("before", "seconds booked up to one instant before"),
+         ("total", "seconds booked up to now"), ("most", "twice 40 minutes in seconds"), ("fine", "the property")),
+        "at one instant at most 4,800 seconds are booked.",
+        "1. Nothing that is remembered plays a part, so that the step doesn't need what held before.",
+        """say `booked` is over 4,800. Where `first licensed` holds, `first booked` is 60 times `first`, which is at most `licence`,
+        thus at most 2,400; in the sum the constraints on minutes are taken 60 times. Where it doesn't hold, `first booked` is
+        `none`, and that is at most 2,400 too. The second band has as much, and both together have 4,800. The base says so of
+        offsets 0 and 1, the step of offset 1.""",
+        examiner_proofs.one_value(), "accepted depth 1 base 77 step 39",
+        examined=Examined(
+            examiner_proofs.HISTORY,
+            """at instant 1 the second band asks for all minutes there are, for which its desk writes the greatest number that fits,
+            and at instant 3 the first one gives back more than it can have had.""",
+            examiner_proofs.QUESTIONS,
+            """a session on these inputs answers instant 0 and no other. It works out all streams, and at instant 1 `second
+            seconds`, 60 times that number, is outside of 64 signed bits: `refused 34 record 7`. Nothing that was booked rests on
+            it, for the band has no licence and `second booked` is `none`. A look-up follows the equations down from the wanted
+            stream, at an "if" to its condition and its taken branch alone, and gives every value up to instant 2 but that one.
+            Where it comes to `first seconds` at instant 3, whose branch is taken, it refuses, with the number of the wanted
+            stream.""",
+            ("30 and 10 minutes, the value that a session gives", "20 minutes and none; a session gives no value of this instant",
+             "the number itself is wanted, and it is outside", "the property at this instant",
+             "2,400, 1,200 and 4,800, back through three instants",
+             "the sum is wanted and named, and not stream 6, which left the range", "the other band at the same instant",
+             "an instant later, where nothing is remembered", "and where all that was booked is added up",
+             "there are streams 0 to 14", "there are instants 0 to 4"))),
+    Example(
         "forged", "A forged certificate",
         """A licence office says at each instant whether a licence is valid, and its word takes two instants to arrive at the
         booking desk. Until then the desk takes the licence to be valid.""",
@@ -549,7 +627,8 @@ PAGE = """# Examples
 Nodes of a booking scheduler. Each folder has a node file, a certificate file, the one line `verdict` that a checker says of the
 two, and a page that gives the equations and the argument. Those for the flight list also have a table of ranges, `table.bin`, and
 the one line `listed` that the check of ranges says of node and table. One has a pass of a session on its node, `pass.bin`, and the
-lines `says` that are printed when it is run. `tools/make_examples.py` writes all of these.
+lines `says` that are printed when it is run, and one a history of inputs, `history.bin`, questions on it, `questions.bin`, and the
+lines `says` that answer these. `tools/make_examples.py` writes all of these.
 
 The certificates are of version 2: at depth k the base shows the property at instants 0 to k, and the step at the last of k + 1
 instants in a row that begin after instant 0. Where an argument needs the property of an earlier instant, the step takes it from
@@ -570,6 +649,11 @@ The line on a table of ranges, after its name:
 The lines of a pass:
 
     tools/run-pass examples/on-duty
+
+The answers to questions on a history, in its folder:
+
+    cd examples/one-value
+    ../../tools/look-up node.bin history.bin questions.bin
 
 [between-commands](between-commands/README.md) has no node of its own: it is a program in C that checks a certificate ten lines at a time between two
 commands to an antenna.
@@ -593,6 +677,11 @@ def main():
         if example.events:
             (files / "pass.bin").write_bytes(pass_file(example.events, len(example.streams)))
             (files / "says").write_text("".join(f"{line}\n" for line in example.printed()))
+        if example.examined:
+            history, questions = example.examined.history, example.examined.questions
+            (files / "history.bin").write_bytes(history_file(history))
+            (files / "questions.bin").write_bytes(questions_file(len(history), [question[:2] for question in questions]))
+            (files / "says").write_text("".join(f"{line}\n" for line in example.examined.printed()))
     rows = [f"| [{e.name}]({e.name}/README.md) | {e.title} | `{e.verdict}` |" for e in EXAMPLES]
     (folder / "README.md").write_text(PAGE.format(rows="\n".join(rows)))
     print(f"{len(EXAMPLES)} examples")
