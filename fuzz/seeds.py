@@ -1,7 +1,7 @@
 #!/usr/bin/env python3
 """Writes the seeds of all targets: seeds.py FOLDER. From the examples, crates/check_pairs, nodes in another order and with loops,
-certificates of every depth and of other versions, turns from any line, sessions at the ends of 64 bits, records with trials, and a
-held level with its ranges."""
+certificates of every depth and of other versions, turns from any line, sessions at the ends of 64 bits, records with trials, look-ups
+in and out of histories, and a held level with its ranges."""
 import itertools
 import pathlib
 import struct
@@ -17,6 +17,9 @@ VERSION = 2
 RECORD_FILE = 1040
 NATURAL = 128
 GREATEST = 0xFFFF
+# bytes of a look-up that stand for the greatest number and for half of all
+FAR, HALF = 0xF7, 0xF8
+INSTANTS = 16
 INSTANT, TRIAL, COMMIT, BEGIN = range(4)
 # events of a session, eight a seed
 AT_ONCE = [INSTANT] * 4 + [TRIAL, INSTANT, COMMIT, INSTANT]
@@ -178,6 +181,52 @@ def at_the_ends():
             yield f"{name}-{i}", session_seed(node, (0, 0), inputs[i:i + 8])
 
 
+def look_up_seed(node, instants, stream, instant, inputs, typed=1, count=NATURAL):
+    return bytes([instants, stream, instant, count, typed]) + check_seed(node, struct.pack(f"<{len(inputs)}q", *inputs))
+
+
+def look_ups(node):
+    """The last stream of a node at the last instant, in histories of one and of 16 instants, right and wrong."""
+    n = min(node[-12], 64) if len(node) >= 16 else 0
+    last = max(n, 1) - 1
+    for name, inputs in [("bools", [1, 0, 1]), ("ends", ENDS), ("small", [3, -2, 0, 1, 5])]:
+        filled = [inputs[i % len(inputs)] for i in range(INSTANTS * n)]
+        yield f"{name}-1", look_up_seed(node, 1, last, 0, filled)
+        yield f"{name}-16", look_up_seed(node, INSTANTS, last, INSTANTS - 1, filled)
+        yield f"{name}-middle", look_up_seed(node, INSTANTS, last // 2, INSTANTS // 2, filled)
+    ones = [1] * (INSTANTS + 1) * n
+    yield "untyped", look_up_seed(node, INSTANTS, last, 0, ENDS, typed=0)
+    for instants in (INSTANTS, INSTANTS + 1):
+        yield f"untyped-later-{instants}", look_up_seed(node, instants, last, 0, ones[:64] + ENDS, typed=0)
+    yield "count", look_up_seed(node, INSTANTS, last, 0, ones, count=1)
+    yield "long", look_up_seed(node, INSTANTS + 1, last, 0, ones)
+    yield "none", look_up_seed(node, 0, last, 0, [])
+    yield "no-stream", look_up_seed(node, INSTANTS, n, 0, ones)
+    yield "no-instant", look_up_seed(node, INSTANTS, last, INSTANTS, ones)
+    yield "far", look_up_seed(node, FAR, FAR, FAR, [])
+    yield "half", look_up_seed(node, HALF, 0, 0, [])
+
+
+def deep():
+    """Nodes that are followed far down: 62 doublings, and a chain through all instants."""
+    doublings = [rec(1, BOOL, k=1), rec(0, INT), *[rec(6, INT, i, i) for i in range(1, 63)]]
+    chain = [rec(0, BOOL), rec(13, BOOL, 0, 63), *[rec(5, BOOL, i, 0) for i in range(1, 63)]]
+    return [("doublings", node_file(doublings, 0)), ("chain", node_file(chain, 63))]
+
+
+def beside_outside():
+    """Streams that read 3, twice an input and outside at one of two instants, or 4, a bool made of it."""
+    first = [rec(1, BOOL, k=1), rec(1, INT), rec(0, INT), rec(6, INT, 2, 2), rec(9, BOOL, 3, 1), rec(2, BOOL, 0)]
+    reading = [rec(3, BOOL, 5, 4), rec(3, BOOL, 4, 5), rec(4, BOOL, 0, 4), rec(4, BOOL, 4, 0), rec(8, INT, 3), rec(7, INT, 3, 2)]
+    choosing = [rec(op, INT, *pair, 0) for op in (11, 12, 13) for pair in ((1, 3), (3, 1))]
+    records = first + reading + choosing
+    node = node_file(records, 0)
+    for stream in range(len(first), len(records)):
+        for instant, at in itertools.product((0, 1), (0, 1)):
+            inputs = replaced([1, 1], at, 2**62)
+            yield f"outside-{stream}-{instant}-{at}", look_up_seed(node, 2, stream, instant, inputs)
+
+
 def ranges_seed(node, table, draws=(), numbers=NATURAL):
     return bytes([numbers]) + check_seed(node, struct.pack(f"<{len(table) + len(draws)}q", *table, *draws))
 
@@ -197,7 +246,7 @@ def tables():
 
 def main():
     out = pathlib.Path(sys.argv[1])
-    for target in ("fuzz_check", "fuzz_turns", "fuzz_session", "fuzz_ranges"):
+    for target in ("fuzz_check", "fuzz_turns", "fuzz_session", "fuzz_look_up", "fuzz_ranges"):
         (out / target).mkdir(parents=True, exist_ok=True)
     nodes = {}
     for name, node, cert in pairs():
@@ -217,6 +266,11 @@ def main():
         ]):
             (out / "fuzz_session" / f"{name}-{i}").write_bytes(session_seed(node, kept, inputs, calls))
         (out / "fuzz_ranges" / name).write_bytes(ranges_seed(node, []))
+    for name, node in [(name, node) for node, name in nodes.items()] + deep():
+        for look_up, seed in look_ups(node):
+            (out / "fuzz_look_up" / f"{name}-{look_up}").write_bytes(seed)
+    for name, seed in beside_outside():
+        (out / "fuzz_look_up" / name).write_bytes(seed)
     for name, seed in at_the_ends():
         (out / "fuzz_session" / name).write_bytes(seed)
     for name, seed in tables():

@@ -61,7 +61,8 @@ static inline int place_fits(size_t number, size_t place)
 {
     if (number == 0 || number == CONUHAWE_UNFINISHED)
         return place == CONUHAWE_NO_PLACE;
-    if (number <= 4 || (number >= 11 && number <= 14) || (number >= 30 && number <= 32) || number == 35 || number == 55 || number == 71)
+    if (number <= 4 || (number >= 11 && number <= 14) || (number >= 30 && number <= 32) || number == 35 || number == 55 ||
+        number == 65 || number == 71)
         return place == CONUHAWE_FILE;
     if (number <= 8 || number == 23 || number == 33 || number == 34 || number == 72)
         return place == CONUHAWE_RECORD;
@@ -88,11 +89,13 @@ static inline void check_shape(conuhawe_answer a, size_t streams, size_t constra
         CHECK(a.value[0] == 0 && a.value[1] == 0 && a.value[2] == 0);
 }
 
+/* How many operands of each operator are needed now, a first. */
+static const uint8_t needed_now[16] = {0, 0, 1, 2, 2, 2, 2, 2, 1, 2, 2, 3, 2, 1, 2, 2};
+
 /* The lowest record from which operands needed now lead on without end, the stream count where there is none: a second reading of
  * records that pass 5 and 6. */
 static inline size_t lowest_endless(const uint8_t *records, size_t streams)
 {
-    static const uint8_t needed_now[16] = {0, 0, 1, 2, 2, 2, 2, 2, 1, 2, 2, 3, 2, 1, 2, 2};
     uint8_t ends[64] = {0};
     for (size_t round = 0; round < streams; round++)
         for (size_t i = 0; i < streams; i++) {

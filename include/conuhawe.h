@@ -12,6 +12,9 @@
  * memcpy and memset, and always returns. The caller owns all memory; no call keeps a pointer. Calls that are given different memory
  * may run at the same time in different threads, and any number of calls may read the same files and inputs at once. One record is
  * lent to one call at a time.
+ *
+ * What a call needs of the stack is measured, on x86-64, and not proved: conuhawe_look_up, which follows chains of equations down,
+ * about 150 KB at the deepest, and every other call less than 16 KB.
  */
 #ifndef CONUHAWE_H
 #define CONUHAWE_H
@@ -27,7 +30,7 @@ extern "C" {
 enum {
     CONUHAWE_NO_PLACE = 0,
     CONUHAWE_FILE = 1,       /* the file; also input count, slice length, a record that holds no node or no trial, progress past the
-                              * last line, a table of ranges */
+                              * last line, a history too long or without the wanted stream and instant, a table of ranges */
     CONUHAWE_RECORD = 2,     /* record `index` of the node file, or the stream of that number */
     CONUHAWE_CONSTRAINT = 3, /* constraint `index` of the certificate */
     CONUHAWE_LINE = 4,       /* line `index`, counted through base and then on through step */
@@ -76,6 +79,9 @@ enum {
     CONUHAWE_OUTSIDE_RANGE = 34, /* at the first such stream in the worked-out order */
     CONUHAWE_NO_TRIAL = 35,      /* no trial is held; after 30 */
 
+    /* look-up: 31, 33, 65 and then 34, whose record is the wanted stream; place: file for 65 */
+    CONUHAWE_NOT_IN_HISTORY = 65, /* the history has over 16 instants, or no such stream or instant */
+
     /* table of ranges; places: file for 71, record for 72 */
     CONUHAWE_RANGES_TABLE = 71,    /* table length, ends reversed or too large, a bool's ends not 0 */
     CONUHAWE_RANGE_NOT_INSIDE = 72 /* at the lowest record whose operator's results do not lie inside its range */
@@ -105,6 +111,12 @@ typedef struct conuhawe_turned {
     conuhawe_progress progress; /* for the next turn */
     size_t checked;             /* how many lines this turn has moved past */
 } conuhawe_turned;
+
+/* What a look-up gives. */
+typedef struct conuhawe_looked_up {
+    conuhawe_answer answer;
+    int64_t value; /* of the wanted stream at the wanted instant; 0 where refused */
+} conuhawe_looked_up;
 
 /* A session record: it is the caller's, and a call changes it only where it is accepted. A record of any bytes is taken (one that
  * holds no node is refused with 30 by every call but conuhawe_begin), so a program may copy it, store it and lend it again; a zeroed
@@ -192,6 +204,33 @@ conuhawe_answer conuhawe_trial(conuhawe_session *session, const int64_t *inputs,
  * the last committed instant, and no trial is held. So trials and the commit of the last one leave, byte for byte, the record that
  * conuhawe_instant leaves on that one's inputs. Refused: every byte of the record is as it was. */
 conuhawe_answer conuhawe_commit(conuhawe_session *session);
+
+/* Looks up the value of one stream at one instant of a history, without a session: nothing is stepped and nothing is written. A history
+ * is a count of instants and all their inputs in turn: with m inputs in the node, instant j has numbers m * j to m * j + m - 1, in
+ * record order as conuhawe_instant takes them. Streams and instants count from 0; `instants`, `stream` and `instant` may be any numbers.
+ *
+ * Refused by the first of these that is broken:
+ * - 1 to 8 and 23, as by conuhawe_read.
+ * - 31: input_count is not instants times m. The product is that of whole numbers, it does not wrap around. Where m is 0, any count of
+ *   instants passes with no inputs.
+ * - 33: a bool input is not 0 or 1. All instants are looked at, however many and also those after the wanted one; the index is the
+ *   lowest such record of the earliest such instant.
+ * - 65: `instants` is over 16, `stream` is not below the stream count or `instant` is not below `instants`. So a history without
+ *   instants is refused.
+ * - 34: a value that is visited is outside -2^63 to 2^63 - 1. The index is `stream`, whichever stream it was that left the range.
+ *
+ * Visited is the wanted stream at the wanted instant; and from each visited stream, at its instant, of operator 11 c and, where that is
+ * true, a, else b; of operator 12 a at instant 0 and b later; of operator 13 a at instant 0 and later b, one instant before; of every
+ * other operator all operands that it has, also where one of them settles the value: both of an "and" whose a is false, and a of K * a
+ * where K is 0. Nothing else plays a part: no untaken branch and no input of a later instant. Each stream at each instant is worked
+ * out at most once, so that there are at most 16 * 64 evaluations.
+ *
+ * Accepted: `value` is what the node's equations give over unbounded whole numbers. Where 31, 33 and 65 pass, and a session on the file
+ * is given the same inputs instant by instant and answers instants 0 to `instant`, the look-up is accepted, and `value` is the one that
+ * the session shows. Where the session says 34 at one of these, the look-up may give a value still: where nothing that it visits is
+ * outside. */
+conuhawe_looked_up conuhawe_look_up(const uint8_t *node, size_t node_length, size_t instants, const int64_t *inputs,
+                                    size_t input_count, size_t stream, size_t instant);
 
 /* Checks a table of ranges for a node file: rules 1 to 8 and 23 for the node, then 71 and 72. `table` has two numbers a stream, the
  * least and the greatest of stream 0, then of stream 1, and on.

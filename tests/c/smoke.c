@@ -11,6 +11,8 @@ static_assert(sizeof(conuhawe_progress) == 8, "a progress record is one number")
 static_assert(sizeof(conuhawe_turned) == 64, "an answer and two numbers more");
 static_assert(offsetof(conuhawe_turned, progress) == 48, "the answer comes first");
 static_assert(offsetof(conuhawe_turned, checked) == 56, "a number before it");
+static_assert(sizeof(conuhawe_looked_up) == 56, "an answer and a value");
+static_assert(offsetof(conuhawe_looked_up, value) == 48, "the answer comes first");
 static_assert(sizeof(conuhawe_session) == 2080, "a record has no padding");
 static_assert(offsetof(conuhawe_session, last) == 8, "the length comes first");
 static_assert(offsetof(conuhawe_session, trial) == 520, "64 values of the last instant before it");
@@ -452,6 +454,74 @@ static void check_held(void)
     free(s);
 }
 
+/* A look-up in a history that stands in a block of just its size. */
+static conuhawe_looked_up look_up(const uint8_t *node, size_t length, size_t instants, const int64_t *inputs, size_t count,
+                                  size_t stream, size_t instant)
+{
+    int64_t *given = malloc(count * sizeof *given);
+    if (!given)
+        exit(1);
+    memcpy(given, inputs, count * sizeof *given);
+    conuhawe_looked_up l = conuhawe_look_up(node, length, instants, given, count, stream, instant);
+    expect_true("a history is not written", memcmp(given, inputs, count * sizeof *given) == 0);
+    free(given);
+    return l;
+}
+
+static void finds(const char *what, conuhawe_looked_up got, int64_t value)
+{
+    expect(what, got.answer, CONUHAWE_ACCEPTED, CONUHAWE_NO_PLACE, 0, 0, 0, 0);
+    expect_true(what, got.value == value);
+}
+
+static void finds_none(const char *what, conuhawe_looked_up got, size_t number, size_t place, size_t index)
+{
+    expect(what, got.answer, number, place, index, 0, 0, 0);
+    expect_true(what, got.value == 0);
+}
+
+/* The held level where each instant asks for 5, and then where one asks for too much. */
+static void check_look_ups(void)
+{
+    const uint8_t *n = &held[0][0];
+    size_t length = sizeof held;
+    int64_t inputs[17];
+    for (int t = 0; t < 17; t++)
+        inputs[t] = 5;
+    for (int64_t t = 0; t < 16; t++) {
+        finds("the level", look_up(n, length, 16, inputs, 16, 6, t), 5 * t + 5);
+        finds("the level before", look_up(n, length, 16, inputs, 16, 4, t), 5 * t);
+    }
+    finds("the property", look_up(n, length, 1, inputs, 1, 0, 0), 1);
+    finds_none("no node", look_up(n, 0, 17, inputs, 3, 7, 17), CONUHAWE_NODE_LENGTH, CONUHAWE_FILE, 0);
+    finds_none("input count", look_up(n, length, 17, inputs, 3, 7, 17), CONUHAWE_INPUT_COUNT, CONUHAWE_FILE, 0);
+    finds_none("17 instants", look_up(n, length, 17, inputs, 17, 6, 0), CONUHAWE_NOT_IN_HISTORY, CONUHAWE_FILE, 0);
+    finds_none("no stream", look_up(n, length, 16, inputs, 16, 7, 0), CONUHAWE_NOT_IN_HISTORY, CONUHAWE_FILE, 0);
+    finds_none("no instant", look_up(n, length, 16, inputs, 16, 6, 16), CONUHAWE_NOT_IN_HISTORY, CONUHAWE_FILE, 0);
+    finds_none("no instants", look_up(n, length, 0, inputs, 0, 0, 0), CONUHAWE_NOT_IN_HISTORY, CONUHAWE_FILE, 0);
+
+    /* 5 and then the greatest number are too much, and 6, the lesser of that and 100, has visited it */
+    inputs[1] = INT64_MAX;
+    finds("before it", look_up(n, length, 16, inputs, 16, 6, 0), 5);
+    finds("beside it", look_up(n, length, 16, inputs, 16, 4, 1), 5);
+    finds_none("at it", look_up(n, length, 16, inputs, 16, 5, 1), CONUHAWE_OUTSIDE_RANGE, CONUHAWE_RECORD, 5);
+    finds_none("after it", look_up(n, length, 16, inputs, 16, 6, 9), CONUHAWE_OUTSIDE_RANGE, CONUHAWE_RECORD, 6);
+}
+
+/* The two bands, whose inputs are bools: 33 comes before 65, and no product wraps around. */
+static void check_bool_histories(file node)
+{
+    static const int64_t inputs[6] = {1, 1, 0, 1, 1, 2};
+    uint8_t *n = block(node, 0);
+    finds("a grant", look_up(n, node.length, 2, inputs, 4, 3, 1), 1);
+    finds_none("bool input", look_up(n, node.length, 3, inputs, 6, 3, 0), CONUHAWE_BOOL_INPUT, CONUHAWE_RECORD, 1);
+    finds_none("bool input first", look_up(n, node.length, 3, inputs, 6, 6, 3), CONUHAWE_BOOL_INPUT, CONUHAWE_RECORD, 1);
+    finds_none("half of all", look_up(n, node.length, SIZE_MAX / 2 + 1, inputs, 0, 0, 0), CONUHAWE_INPUT_COUNT, CONUHAWE_FILE, 0);
+    finds_none("far out", look_up(n, node.length, 2, inputs, 4, SIZE_MAX, SIZE_MAX), CONUHAWE_NOT_IN_HISTORY, CONUHAWE_FILE, 0);
+    expect_true("a node is not written", memcmp(n, node.bytes, node.length) == 0);
+    free(n);
+}
+
 int main(int argc, char **argv)
 {
     if (argc != 3) {
@@ -469,6 +539,8 @@ int main(int argc, char **argv)
     check_held();
     check_trials();
     check_held_trials(node);
+    check_look_ups();
+    check_bool_histories(node);
     printf("%s\n", failures ? "failed" : "ok");
     return failures != 0;
 }

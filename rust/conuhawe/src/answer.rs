@@ -37,8 +37,9 @@ impl fmt::Display for Place {
 /// A refusal: the number of the first rule that is broken, and where.
 ///
 /// 1 to 8 and 23 are of a node file, 11 to 22 of a certificate, 30 to 34 of
-/// an instant's call or a trial, 30 and 35 of a commit, 55 of a turn, 71 and 72
-/// of a table of ranges. A refusal prints as `refused 19 line 4`.
+/// an instant's call or a trial, 30 and 35 of a commit, 55 of a turn, 31, 33, 34
+/// and 65 of a look-up, 71 and 72 of a table of ranges. A refusal prints as
+/// `refused 19 line 4`.
 #[derive(Clone, Copy, Debug, PartialEq, Eq, Hash)]
 pub struct Refusal {
     /// The rule's number.

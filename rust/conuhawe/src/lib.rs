@@ -43,17 +43,33 @@
 //! # Ok(())
 //! # }
 //! ```
+//!
+//! One value of a short pass may be looked up without a session:
+//!
+//! ```no_run
+//! use conuhawe::History;
+//!
+//! # fn main() -> Result<(), Box<dyn std::error::Error>> {
+//! # let node = std::fs::read("node.bin")?;
+//! let (instants, inputs) = (2, &[1, 1, 0, 1]);
+//! let history = History { node: &node, instants, inputs };
+//! assert_eq!(history.look_up(3, 1)?, 1); // stream 3 at instant 1
+//! # Ok(())
+//! # }
+//! ```
 
 #![warn(missing_docs)]
 #![deny(unsafe_op_in_unsafe_fn)]
 
 mod answer;
 mod files;
+mod history;
 mod session;
 mod sys;
 mod turns;
 
 pub use answer::{Accepted, Node, Place, Refusal, Stage};
 pub use files::{certificate_note, check, node_note, ranges, read};
+pub use history::History;
 pub use session::Session;
 pub use turns::{turn, turns_begin, Progress, Turned, Turns};

@@ -39,6 +39,14 @@ pub(crate) struct Turned {
     pub(crate) checked: usize,
 }
 
+/// `conuhawe_looked_up`.
+#[repr(C)]
+#[derive(Clone, Copy)]
+pub(crate) struct LookedUp {
+    pub(crate) answer: Answer,
+    pub(crate) value: i64,
+}
+
 extern "C" {
     pub(crate) fn conuhawe_read(node: *const u8, length: usize) -> Answer;
     pub(crate) fn conuhawe_check(
@@ -72,6 +80,15 @@ extern "C" {
         value_count: usize,
     ) -> Answer;
     pub(crate) fn conuhawe_commit(record: *mut Record) -> Answer;
+    pub(crate) fn conuhawe_look_up(
+        node: *const u8,
+        node_length: usize,
+        instants: usize,
+        inputs: *const i64,
+        input_count: usize,
+        stream: usize,
+        instant: usize,
+    ) -> LookedUp;
     pub(crate) fn conuhawe_ranges(
         node: *const u8,
         length: usize,

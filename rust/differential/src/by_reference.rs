@@ -1,8 +1,8 @@
 //! `rust/reference` as a checker.
 
-use crate::checker::{Checker, Progress, Record, Refusal, Shape, Turned, Verdict};
+use crate::checker::{Checker, History, Progress, Record, Refusal, Shape, Turned, Verdict};
 use reference::certificate::{self, turns};
-use reference::{node, ranges, session};
+use reference::{look_up, node, ranges, session};
 
 /// The second implementation, written from 01 alone.
 #[derive(Clone, Copy, Debug, Default)]
@@ -30,6 +30,15 @@ impl Checker for Reference {
             streams: node.count(),
             property: node.property().into(),
         })
+    }
+
+    fn look_up(&self, history: History, stream: usize, instant: usize) -> Result<i64, Refusal> {
+        let History {
+            node,
+            instants,
+            inputs,
+        } = history;
+        look_up::look_up(node, instants, inputs, stream, instant)
     }
 
     fn ranges(&self, node: &[u8], table: &[i64]) -> Result<(), Refusal> {

@@ -13,8 +13,19 @@ pub struct Shape {
     pub property: usize,
 }
 
-/// An implementation of 01 and 02: reader, session, checker and the check of
-/// ranges.
+/// A history of a node file: a count of instants, and all their inputs in turn.
+#[derive(Clone, Copy, Debug)]
+pub struct History<'a> {
+    /// The node file.
+    pub node: &'a [u8],
+    /// How many instants there are.
+    pub instants: usize,
+    /// Their inputs.
+    pub inputs: &'a [i64],
+}
+
+/// An implementation of 01 and 02: reader, session, look-ups, checker and the
+/// check of ranges.
 ///
 /// The session record is lent as 1,040 bytes of node file, a length, whether
 /// an instant was committed, 64 last values, whether a trial is held, and its 64
@@ -34,6 +45,9 @@ pub trait Checker {
 
     /// The verdict on a node file.
     fn read(&self, node: &[u8]) -> Result<Shape, Refusal>;
+
+    /// The value of a stream at an instant of a history.
+    fn look_up(&self, history: History, stream: usize, instant: usize) -> Result<i64, Refusal>;
 
     /// The answer on a node file and a table of ranges.
     fn ranges(&self, node: &[u8], table: &[i64]) -> Result<(), Refusal>;

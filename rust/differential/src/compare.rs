@@ -1,7 +1,7 @@
 //! The comparison: verdict, place, note lengths, turns, values, session record
 //! and slices, byte for byte. A difference panics with the seed and the bytes.
 
-use crate::checker::{record_bytes, Checker, Record, Refusal, Shape, Verdict};
+use crate::checker::{record_bytes, Checker, History, Place, Record, Refusal, Shape, Verdict};
 use crate::checker::{Progress, Stage, Turned};
 use std::fmt::{Debug, Write};
 
@@ -52,25 +52,31 @@ impl Said {
 
 /// Compares all on a pair and gives the first one's verdict.
 pub fn pair(checkers: &[&dyn Checker], origin: Origin, node: &[u8], certificate: &[u8]) -> Verdict {
-    let said = Said::by(checkers[0], node, certificate);
     let bytes = [("node", node), ("certificate", certificate)];
-    if !said.is_coherent() {
-        differ(
-            origin,
-            checkers[0],
-            &said,
-            checkers[0],
-            &"incoherent",
-            &bytes,
-        );
+    let said = |checker: &dyn Checker| Said::by(checker, node, certificate);
+    agreed(checkers, origin, &bytes, said, Said::is_coherent).verdict
+}
+
+/// What the first says, which is coherent and what every other says.
+fn agreed<S: PartialEq + Debug>(
+    checkers: &[&dyn Checker],
+    origin: Origin,
+    bytes: &[(&str, &[u8])],
+    said: impl Fn(&dyn Checker) -> S,
+    is_coherent: impl Fn(&S) -> bool,
+) -> S {
+    let first = said(checkers[0]);
+    if !is_coherent(&first) {
+        let incoherent = &"incoherent";
+        differ(origin, checkers[0], &first, checkers[0], incoherent, bytes);
     }
     for other in &checkers[1..] {
-        let theirs = Said::by(*other, node, certificate);
-        if theirs != said {
-            differ(origin, checkers[0], &said, *other, &theirs, &bytes);
+        let theirs = said(*other);
+        if theirs != first {
+            differ(origin, checkers[0], &first, *other, &theirs, bytes);
         }
     }
-    said.verdict
+    first
 }
 
 /// Whether a turn is one on this record and quota: the number checked is the
@@ -99,30 +105,29 @@ pub fn turn(
     quota: usize,
 ) -> Turned {
     let turn = |checker: &dyn Checker| checker.turn(node, certificate, progress, quota);
-    let first = turn(checkers[0]);
     let given = [progress.line, quota].map(usize::to_le_bytes).concat();
     let bytes = [
         ("node", node),
         ("certificate", certificate),
         ("line and quota", &given[..]),
     ];
-    if !is_turn(progress, quota, first) {
-        differ(
-            origin,
-            checkers[0],
-            &first,
-            checkers[0],
-            &"incoherent",
-            &bytes,
-        );
+    agreed(checkers, origin, &bytes, turn, |turned| {
+        is_turn(progress, quota, *turned)
+    })
+}
+
+/// Whether the node's own refusal, if there is one, is the answer, and else a
+/// refusal is one of these.
+fn is_own<A: PartialEq>(
+    own: Option<Refusal>,
+    answer: &Result<A, Refusal>,
+    are_others: impl Fn(Refusal) -> bool,
+) -> bool {
+    match (own, answer) {
+        (Some(own), answer) => answer.as_ref().err() == Some(&own),
+        (None, Err(refusal)) => are_others(*refusal),
+        (None, Ok(_)) => true,
     }
-    for other in &checkers[1..] {
-        let theirs = turn(*other);
-        if theirs != first {
-            differ(origin, checkers[0], &first, *other, &theirs, &bytes);
-        }
-    }
-    first
 }
 
 /// Compares all on a table of ranges and gives the first one's answer. The
@@ -133,33 +138,45 @@ pub fn ranges(
     node: &[u8],
     table: &[i64],
 ) -> Result<(), Refusal> {
-    let said = |checker: &dyn Checker| (checker.read(node).err(), checker.ranges(node, table));
-    let first = said(checkers[0]);
     let given = number_bytes(table);
     let bytes = [("node", node), ("table", &given[..])];
-    let coherent = match first {
-        (Some(refusal), answer) => answer == Err(refusal),
-        (None, answer) => {
-            answer.map_or_else(|refusal| matches!(refusal.number, 71 | 72), |()| true)
-        }
+    let said = |checker: &dyn Checker| (checker.read(node).err(), checker.ranges(node, table));
+    let of_table = |refusal: Refusal| matches!(refusal.number, 71 | 72);
+    agreed(checkers, origin, &bytes, said, |(own, answer)| {
+        is_own(*own, answer, of_table)
+    })
+    .1
+}
+
+/// Compares all on a look-up and gives the first one's answer. The node's own
+/// refusals come first, and 34 is the wanted stream's.
+pub fn look_up(
+    checkers: &[&dyn Checker],
+    origin: Origin,
+    history: History,
+    (stream, instant): (usize, usize),
+) -> Result<i64, Refusal> {
+    let History { node, instants, .. } = history;
+    let inputs = number_bytes(history.inputs);
+    let wanted = [instants, stream, instant].map(usize::to_le_bytes).concat();
+    let bytes = [
+        ("node", node),
+        ("inputs", &inputs[..]),
+        ("instants, stream and instant", &wanted[..]),
+    ];
+    let said = |checker: &dyn Checker| {
+        let own = checker.read(node).err();
+        (own, checker.look_up(history, stream, instant))
     };
-    if !coherent {
-        differ(
-            origin,
-            checkers[0],
-            &first,
-            checkers[0],
-            &"incoherent",
-            &bytes,
-        );
-    }
-    for other in &checkers[1..] {
-        let theirs = said(*other);
-        if theirs != first {
-            differ(origin, checkers[0], &first, *other, &theirs, &bytes);
-        }
-    }
-    first.1
+    let of_history = |refusal: Refusal| match refusal.place {
+        Place::File => matches!(refusal.number, 31 | 65),
+        Place::Record(at) => refusal.number == 33 || (refusal.number, at) == (34, stream),
+        _ => false,
+    };
+    agreed(checkers, origin, &bytes, said, |(own, answer)| {
+        is_own(*own, answer, of_history)
+    })
+    .1
 }
 
 /// Numbers as a file has them.

@@ -1,7 +1,10 @@
 //! A tiny second session: 01's table read straight off the file's bytes, in
 //! checked 128-bit arithmetic. A value is worked out when it is asked for, so
 //! that no order is needed but to name the stream of 34. Whether bytes are a
-//! node at all, 1 to 8 and 23, it asks another checker.
+//! node at all, 1 to 8 and 23, it asks another checker. [`look_up`] is over the
+//! same table.
+
+pub mod look_up;
 
 use crate::checker::{Checker, Place, Record, Refusal, Shape};
 use std::collections::BTreeSet;
@@ -45,6 +48,40 @@ impl Row<'_> {
         };
         (0..count).map(|which| self.operand(which))
     }
+
+    /// The value in the operator's row, of the operands that `at` gives: a stream's
+    /// value, now or one instant before. Nothing where 64 bits do not hold one that
+    /// is asked for; asked for are the condition and the branch taken, the operand
+    /// that 12 and 13 choose, and all operands of the others.
+    fn wide(&self, is_first: bool, mut at: impl FnMut(usize, When) -> Option<i64>) -> Option<i128> {
+        let mut now = |which: usize| at(self.operand(which), When::Now).map(i128::from);
+        let truth = |condition: bool| Some(i128::from(condition));
+        match (self.operator(), is_first) {
+            (1, _) => Some(self.constant()),
+            (2, _) => truth(now(0)? == 0),
+            (3, _) => truth(now(0)? + now(1)? == 2),
+            (4, _) => truth(now(0)? + now(1)? > 0),
+            (5 | 10, _) => truth(now(0)? == now(1)?),
+            (6, _) => now(0)?.checked_add(now(1)?),
+            (7, _) => now(0)?.checked_sub(now(1)?),
+            (8, _) => self.constant().checked_mul(now(0)?),
+            (9, _) => truth(now(0)? <= now(1)?),
+            (11, _) if now(2)? == 1 => now(0),
+            (11, _) => now(1),
+            (14, _) => Some(now(0)?.min(now(1)?)),
+            (15, _) => Some(now(0)?.max(now(1)?)),
+            (_, true) => now(0),
+            (12, false) => now(1),
+            (_, false) => at(self.operand(1), When::Before).map(i128::from),
+        }
+    }
+}
+
+/// At which instant an operand is read.
+#[derive(Clone, Copy, Debug, PartialEq, Eq)]
+enum When {
+    Now,
+    Before,
 }
 
 /// The rows of a node file that passes 1 to 8 and 23.
@@ -129,22 +166,17 @@ fn worked_out(
     room: usize,
 ) -> Result<Vec<i64>, Refusal> {
     let rows = held(by, record)?;
-    let given: Vec<usize> = (0..rows.len())
-        .filter(|i| rows[*i].operator() == 0)
-        .collect();
+    let given = given(&rows);
     if inputs.len() != given.len() {
         return Err(Refusal::file(31));
     }
     if room != rows.len() {
         return Err(Refusal::file(32));
     }
-    let pairs = given.into_iter().zip(inputs.iter().copied());
-    if let Some((i, _)) = pairs.clone().find(|(i, input)| !rows[*i].fits(*input)) {
-        return Err(Refusal::new(33, Place::Record(i)));
-    }
+    fit(&rows, &given, inputs)?;
     let mut known = vec![None; rows.len()];
-    for (i, input) in pairs {
-        known[i] = Some(Some(input));
+    for (i, input) in given.into_iter().zip(inputs) {
+        known[i] = Some(Some(*input));
     }
     let mut instant = Instant {
         rows: &rows,
@@ -157,6 +189,21 @@ fn worked_out(
         let first = streams.find(|i| instant.value(*i).is_none());
         Refusal::new(34, Place::Record(first.expect("one of them")))
     })
+}
+
+/// The input streams.
+fn given(rows: &[Row]) -> Vec<usize> {
+    let is_input = |i: &usize| rows[*i].operator() == 0;
+    (0..rows.len()).filter(is_input).collect()
+}
+
+/// 33 of one instant's inputs.
+fn fit(rows: &[Row], given: &[usize], inputs: &[i64]) -> Result<(), Refusal> {
+    let mut pairs = given.iter().zip(inputs);
+    match pairs.find(|(i, input)| !rows[**i].fits(**input)) {
+        Some((i, _)) => Err(Refusal::new(33, Place::Record(*i))),
+        None => Ok(()),
+    }
 }
 
 /// An instant being worked out.
@@ -173,35 +220,14 @@ impl Instant<'_> {
         if let Some(value) = self.known[stream] {
             return value;
         }
-        let value = self.wide(self.rows[stream]);
+        let record = self.record;
+        let value = self.rows[stream].wide(!record.answered, |operand, when| match when {
+            When::Now => self.value(operand),
+            When::Before => Some(record.last[operand]),
+        });
         let value = value.and_then(|value| i64::try_from(value).ok());
         self.known[stream] = Some(value);
         value
-    }
-
-    /// The value in the operator's row.
-    fn wide(&mut self, row: Row) -> Option<i128> {
-        let record = self.record;
-        let mut at = |which: usize| self.value(row.operand(which)).map(i128::from);
-        let truth = |condition: bool| Some(i128::from(condition));
-        match (row.operator(), record.answered) {
-            (1, _) => Some(row.constant()),
-            (2, _) => truth(at(0)? == 0),
-            (3, _) => truth(at(0)? == 1 && at(1)? == 1),
-            (4, _) => truth(at(0)? == 1 || at(1)? == 1),
-            (5 | 10, _) => truth(at(0)? == at(1)?),
-            (6, _) => at(0)?.checked_add(at(1)?),
-            (7, _) => at(0)?.checked_sub(at(1)?),
-            (8, _) => row.constant().checked_mul(at(0)?),
-            (9, _) => truth(at(0)? <= at(1)?),
-            (11, _) if at(2)? == 1 => at(0),
-            (11, _) => at(1),
-            (14, _) => Some(at(0)?.min(at(1)?)),
-            (15, _) => Some(at(0)?.max(at(1)?)),
-            (_, false) => at(0),
-            (12, true) => at(1),
-            (_, true) => Some(i128::from(record.last[row.operand(1)])),
-        }
     }
 }
 

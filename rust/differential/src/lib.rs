@@ -12,8 +12,10 @@
 //!   themselves; [`damage`], [`miscuts`], [`misfactors`] and [`miswindows`]
 //!   spoil; [`cases`] mixes them. [`listed`] generates nodes with tables of
 //!   [`ranges`], [`misranges`] spoils the tables. [`misrecords`] spoils session
-//!   records. [`largest`], [`narrow`] and [`alike`] generate what is measured.
-//!   [`splits`] splits a check into turns.
+//!   records. [`histories`] has short passes and look-ups in them, [`deep`] nodes
+//!   that these follow far down, and [`mishistories`] spoils them. [`largest`],
+//!   [`narrow`] and [`alike`] generate what is measured. [`splits`] splits a check
+//!   into turns.
 //! * [`compare`] compares, and prints seed and bytes where two differ;
 //!   [`tally`], [`events`] and [`stages`] count what was met, [`rests`] tells
 //!   what a step rests on.
@@ -27,6 +29,8 @@
 //!     cargo test --offline --test ranges -- --nocapture --test-threads=1
 //! DIFFERENTIAL_TURNS=5000000 DIFFERENTIAL_SEED=2 \
 //!     cargo test --offline --test turns -- --nocapture --test-threads=1
+//! DIFFERENTIAL_LOOK_UPS=5000000 DIFFERENTIAL_SEED=2 \
+//!     cargo test --offline --test look_ups -- --nocapture --test-threads=1
 //! ```
 //!
 //! The same seed draws the same cases; a difference names seed and case and
@@ -44,6 +48,7 @@ pub mod clauses;
 pub mod compare;
 pub mod cuts;
 pub mod damage;
+pub mod deep;
 pub mod delays;
 pub mod draft;
 pub mod evaluator;
@@ -51,11 +56,13 @@ pub mod events;
 pub mod factors;
 pub mod forge;
 pub mod grow;
+pub mod histories;
 pub mod largest;
 pub mod linear;
 pub mod listed;
 pub mod miscuts;
 pub mod misfactors;
+pub mod mishistories;
 pub mod misranges;
 pub mod misrecords;
 pub mod miswindows;

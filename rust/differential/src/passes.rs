@@ -39,6 +39,11 @@ impl Run {
         taste.reordered = random.once_in(2);
         let mut node = nodes::node(random, taste);
         node.note = nodes::note(random, 1_040);
+        Run::of(random, node)
+    }
+
+    /// This node, with a way to draw its inputs.
+    pub fn of(random: &mut Random, node: NodeFile) -> Self {
         Run {
             reordered: is_reordered(&node.records),
             node,

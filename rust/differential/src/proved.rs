@@ -6,7 +6,7 @@
 
 pub mod marked;
 
-use crate::checker::{Accepted, Checker, Place, Record, Refusal, Shape, Verdict};
+use crate::checker::{Accepted, Checker, History, Place, Record, Refusal, Shape, Verdict};
 use crate::checker::{Progress, Stage, Turned};
 use conuhawe::Session;
 
@@ -146,6 +146,20 @@ impl Checker for Proved {
             streams: node.streams,
             property: node.property,
         })
+    }
+
+    fn look_up(&self, history: History, stream: usize, instant: usize) -> Result<i64, Refusal> {
+        let History {
+            node,
+            instants,
+            inputs,
+        } = history;
+        let history = conuhawe::History {
+            node,
+            instants,
+            inputs,
+        };
+        history.look_up(stream, instant).map_err(refusal)
     }
 
     fn ranges(&self, node: &[u8], table: &[i64]) -> Result<(), Refusal> {

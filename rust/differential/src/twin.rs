@@ -2,7 +2,8 @@
 //! behind a note, and sessions by the tiny evaluator. It stays a test of its
 //! own where two implementations are compared.
 
-use crate::checker::{Checker, Progress, Record, Refusal, Shape, Stage, Turned, Verdict};
+use crate::checker::{Checker, History, Progress, Record, Refusal};
+use crate::checker::{Shape, Stage, Turned, Verdict};
 use crate::evaluator;
 
 /// The second path through `C`.
@@ -56,6 +57,20 @@ impl<C: Checker> Checker for Twin<C> {
         match self.0.read(node) {
             Err(refusal) if is_of_length(&refusal) => Err(refusal),
             _ => self.0.read(&moved(node).0),
+        }
+    }
+
+    fn look_up(&self, history: History, stream: usize, instant: usize) -> Result<i64, Refusal> {
+        match self.0.look_up(history, stream, instant) {
+            Err(refusal) if is_of_length(&refusal) => Err(refusal),
+            _ => {
+                let elsewhere = History {
+                    node: &moved(history.node).0,
+                    inputs: &[&[-1], history.inputs].concat()[1..],
+                    ..history
+                };
+                self.0.look_up(elsewhere, stream, instant)
+            }
         }
     }
 

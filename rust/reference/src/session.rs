@@ -162,7 +162,7 @@ fn check_lengths(node: &Node, inputs: &[i64], values: &[i64]) -> Result<(), Refu
 }
 
 /// Refusal 33: "bool input not 0 or 1; lowest record".
-fn check_inputs(node: &Node, inputs: &[i64]) -> Result<(), Refusal> {
+pub(crate) fn check_inputs(node: &Node, inputs: &[i64]) -> Result<(), Refusal> {
     for (&stream, &input) in node.inputs().iter().zip(inputs) {
         let stream = usize::from(stream);
         if node.types()[stream] == Type::Bool && !is_bool(input) {

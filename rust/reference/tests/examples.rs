@@ -9,6 +9,7 @@ use reference::answer::Refusal;
 use reference::build::random::Random;
 use reference::build::{search, BOOL, INT};
 use reference::certificate::check;
+use reference::look_up::look_up;
 use reference::node::{self, Node, Type};
 use reference::ranges;
 use reference::session::{begin, commit, instant, trial, Record as Session};
@@ -107,7 +108,7 @@ fn only_the_forged_are_refused() {
     let refused = |folder: &&Folder| !folder.verdict.starts_with("accepted");
     let names: Vec<&str> = folders.iter().filter(refused).map(Folder::name).collect();
     assert_eq!(names, REFUSED);
-    assert_eq!(folders.len(), 20);
+    assert_eq!(folders.len(), 21);
 }
 
 /// 02: "Version 1 files are now refused with 12."
@@ -300,4 +301,47 @@ fn a_pass_is_as_written() {
     }
     let written = fs::read_to_string(folder.path.join("says")).unwrap();
     assert_eq!(said, written.lines().collect::<Vec<_>>());
+}
+
+/// The numbers of a file, 64 bits each.
+fn words(folder: &Folder, file: &str) -> Vec<i64> {
+    let bytes = fs::read(folder.path.join(file)).unwrap();
+    let (words, rest) = bytes.as_chunks();
+    assert!(rest.is_empty(), "{file}");
+    words.iter().copied().map(i64::from_le_bytes).collect()
+}
+
+#[test]
+fn questions_are_answered_as_written() {
+    let folder = named("one-value");
+    let inputs = words(&folder, "history.bin");
+    let numbers = words(&folder, "questions.bin");
+    let numbers: Vec<usize> = numbers
+        .iter()
+        .map(|n| usize::try_from(*n).unwrap())
+        .collect();
+    let (instants, questions) = numbers.split_first().unwrap();
+    let count = inputs.len();
+    let mut said = vec![format!("questions.bin: instants {instants} inputs {count}")];
+    for [stream, instant] in questions.as_chunks().0 {
+        let answer = look_up(&folder.node, *instants, &inputs, *stream, *instant);
+        let answer = answer.map_or_else(|r| r.to_string(), |value| format!("value {value}"));
+        said.push(format!("stream {stream} instant {instant}: {answer}"));
+    }
+    let written = fs::read_to_string(folder.path.join("says")).unwrap();
+    assert_eq!(said, written.lines().collect::<Vec<_>>());
+}
+
+/// The page of one-value: a session answers instant 0 alone.
+#[test]
+fn a_session_stops_where_look_ups_go_on() {
+    let folder = named("one-value");
+    let inputs = words(&folder, "history.bin");
+    let mut session = Session::new();
+    begin(&mut session, &folder.node).unwrap();
+    let mut values = [0; 15];
+    instant(&mut session, &inputs[..2], &mut values).unwrap();
+    let stopped = instant(&mut session, &inputs[2..4], &mut values).unwrap_err();
+    assert_eq!(stopped.to_string(), "refused 34 record 7");
+    assert_eq!(look_up(&folder.node, 5, &inputs, 12, 2), Ok(8400));
 }

@@ -2,17 +2,19 @@
 //! and small certificates, instants of a node of 64 streams, its trials and
 //! commits, cuts beside arithmetic lines, equation lines with multiplied
 //! constraints beside the same lines without, instants of the same node in
-//! other orders, instants of lessers and greaters, tables of ranges, and turns.
-//! A library from before 02's S-9 has no turns and is not linked. Nodes, inputs
-//! and lines are those that were drawn before S-4, when the base ended at k −
-//! 1: each certificate has an equation and a join more, two property lines (or
-//! last lines) less, and not-prop at k in the base's property lines.
+//! other orders, instants of lessers and greaters, tables of ranges, turns, and
+//! look-ups. A library from before 02's S-11 has no look-ups and is not linked.
+//! Nodes, inputs and lines are those that were drawn before S-4, when the base
+//! ended at k − 1: each certificate has an equation and a join more, two property
+//! lines (or last lines) less, and not-prop at k in the base's property lines.
 //!
 //! `cargo run --offline --release --bin bench`; with
 //! `--no-default-features` the reference alone. The checkers take turns in
 //! many short rounds; a ratio is that of one round, so that what else the
 //! machine does meets both. Printed are medians, with the middle half.
 
+#[path = "bench/look_ups.rs"]
+mod look_ups;
 #[path = "bench/turns.rs"]
 mod turns;
 
@@ -397,4 +399,5 @@ fn main() {
     tables(&mut random);
     turns::in_turns(&mut random);
     turns::before_lines(&mut random);
+    look_ups::look_ups(&mut random);
 }

@@ -3,7 +3,7 @@
 //! ones. What a call leaves is looked at by the byte.
 
 use super::{lent, refusal, taken_back, Proved, HELD, STARTED};
-use crate::checker::{Checker, Progress, Record, Refusal, Shape, Turned, Verdict};
+use crate::checker::{Checker, History, Progress, Record, Refusal, Shape, Turned, Verdict};
 use conuhawe::Session;
 
 /// The proved calls over such records.
@@ -68,6 +68,10 @@ impl Checker for Marked {
 
     fn read(&self, node: &[u8]) -> Result<Shape, Refusal> {
         Proved.read(node)
+    }
+
+    fn look_up(&self, history: History, stream: usize, instant: usize) -> Result<i64, Refusal> {
+        Proved.look_up(history, stream, instant)
     }
 
     fn ranges(&self, node: &[u8], table: &[i64]) -> Result<(), Refusal> {
