@@ -1,4 +1,6 @@
 // Sums of constraints: rules 20 and 22, of arithmetic lines and of cuts.
+#![tactic(auto)]
+
 mod contradictions;
 mod cuts;
 mod multipliers;

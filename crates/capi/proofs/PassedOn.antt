@@ -109,10 +109,10 @@ module _ {M : Type 1} {𝓤 : Ura M} {𝓛 : Logic 𝓤} (P : Passing 𝓛) wher
         let Last : Lasts P.passes κs a → SProp 𝓤 = λ ws. sem 𝓛 (lasts P.passes κs a ws) in
         ex_e 𝓤 _ (λ ws. via 𝓤 _ (mono_r 𝓤 (Last ws) (P.turns κs a r n (at_exit P.passes κs a ws) e)) (ex_i 𝓤 (λ us. sep 𝓤 (Last us) (P.tells κs a n (at_exit P.passes κs a us))) ws))
 
-    ends : (r : P.verdict.Denot) (n : Told) (v : Val) → n ≡ P.tell r → ent 𝓤 (sep 𝓤 (sem 𝓛 ((Numbers.the_row).own_val n (v ∷ []))) (Aside r)) (Whole.post y v)
+    ends : (r : P.verdict.Denot) (n : Told) (v : Val) → n ≡ P.tell r → ent 𝓤 (sep 𝓤 (sem 𝓛 ((Numbers.the_row).own n (v ∷ []))) (Aside r)) (Whole.post y v)
     ends r n v e =
-        qed 𝓛 (‵ ((Numbers.the_row).own_val n (v ∷ [])) ∷ (raw Toks ⊛ raw (Said P.verdict P.says r)) ∷ []) ∵ updating ! $ at_once ! $
-        show ! (λ (m : Told). sep 𝓤 (sep 𝓤 Toks (sem 𝓛 ((Numbers.the_row).own_val m (v ∷ [])))) (Said Numbers.the_row P.tells m)) n $
+        qed 𝓛 (‵ ((Numbers.the_row).own n (v ∷ [])) ∷ (raw Toks ⊛ raw (Said P.verdict P.says r)) ∷ []) ∵ updating ! $ at_once ! $
+        show ! (λ (m : Told). sep 𝓤 (sep 𝓤 Toks (sem 𝓛 ((Numbers.the_row).own m (v ∷ [])))) (Said Numbers.the_row P.tells m)) n $
         move ! (1 ∷ []) $ split ! $ move ! (0 ∷ 2 ∷ []) $ join ! $ frame ! $ by ! (turned r n e)
 
     module _ {K : Type 0} {Γ : List (Item 𝓤)} {G : Goal 𝓤 H} where
@@ -126,7 +126,7 @@ module _ {M : Type 1} {𝓤 : Ura M} {𝓛 : Logic 𝓤} (P : Passing 𝓛) wher
       -- the telling has returned v: with what was set aside, that is all that the whole gives
       pub told : K → Soaks G → (r : P.verdict.Denot) (w v : Val) → (Typed (Numbers.the_row).mir (v ∷ []) → Seq K 𝓛 (raw (Whole.post y v) ∷ Γ) G) → Seq K 𝓛 (raw (Tell.post (at_tell r w) v) ∷ raw (Aside r) ∷ Γ) G
       told t z r w v k =
-          use1 𝓛 (later (some (λ (n : Told). (‵ ftrue ⊛ ‵ ((Numbers.the_row).own_val n (v ∷ []))) ⊛ raw (Heard r n)))) (id⊢ 𝓤 _) $ await t z $ pick t (λ n.
+          use1 𝓛 (later (some (λ (n : Told). (‵ ftrue ⊛ ‵ ((Numbers.the_row).own n (v ∷ []))) ⊛ raw (Heard r n)))) (id⊢ 𝓤 _) $ await t z $ pick t (λ n.
           split t $ move t (1 ∷ []) $ use1 𝓛 (raw (fact 𝓤 (n ≡ P.tell r))) (hears r n) $ heard t (n ≡ P.tell r) (λ e.
           split t $ drop t $ peeks t Numbers.the_row (Is Numbers.the_row) (shows 𝓛 Numbers.the_row) n (v ∷ []) (λ is.
           use2 𝓛 (raw (Whole.post y v)) (ends r n v e) $ k ((LL.lawful Numbers.the_type Numbers'.the_laws 𝓛).typed n (v ∷ []) is))))

@@ -1,4 +1,6 @@
 // The calls as C and Rust link them: over `node`, `session`, `certificate`, `ranges` and `look_up`, with answers in numbers.
+#![tactic(auto)]
+
 mod files;
 mod lent;
 mod look_ups;

@@ -9,7 +9,7 @@ use answers::LookUpVerdict;
 
 // A look-up: its answer in numbers, and the value, 0 where it is refused.
 #[repr(C)]
-#[derive(Drop)]
+#[derive(Clone, Copy)]
 pub struct ToldLookUp {
     pub answer: Told,
     pub value: i64,

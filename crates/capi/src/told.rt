@@ -7,7 +7,7 @@ use answers::{CertificateVerdict, InstantVerdict, ListedVerdict, NodeVerdict, Pl
 
 // An answer in numbers; specs/Answers.antt gives each.
 #[repr(C)]
-#[derive(Drop)]
+#[derive(Clone, Copy)]
 pub struct Told {
     pub number: usize,
     pub place: usize,

@@ -10,7 +10,7 @@ use certificate::Progress;
 
 // A turn: its answer in numbers, the record and the number checked.
 #[repr(C)]
-#[derive(Drop)]
+#[derive(Clone, Copy)]
 pub struct ToldTurn {
     pub answer: Told,
     pub progress: Progress,

@@ -16,7 +16,7 @@ use answers::{CertificateVerdict, Place, TurnVerdict};
 use lines::{Frame, line_fault};
 
 // What lines in a row give: no line is refused, or the first that is.
-#[derive(Drop)]
+#[derive(Clone, Copy)]
 pub enum NextLines {
     Passed,
     Refused(usize, Place),

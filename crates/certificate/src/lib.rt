@@ -1,4 +1,6 @@
 // The certificate checker: the whole file, from its opening through turns over its lines to the verdict.
+#![tactic(auto)]
+
 mod checker;
 mod constraint_rules;
 mod file_note;

@@ -20,7 +20,7 @@ use constraints::{Trailer, counts_ok, distance_ok, fixed_ok, trailer_of};
 use node::length_ok;
 
 // What the checks of the certificate file and its constraints give: the trailer, or a refusal.
-#[derive(Drop)]
+#[derive(Clone, Copy)]
 pub enum Opened {
     Passed(Trailer),
     Refused(usize, Place),

@@ -10,12 +10,12 @@ use answers::{CertificateVerdict, Place, TurnVerdict};
 
 // The number of the next line to check, by value.
 #[repr(C)]
-#[derive(Drop)]
+#[derive(Clone, Copy)]
 pub struct Progress {
     pub line: usize,
 }
 
-#[derive(Drop)]
+#[derive(Clone, Copy)]
 pub struct Turned {
     pub verdict: TurnVerdict,
     pub progress: Progress,

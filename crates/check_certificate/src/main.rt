@@ -1,5 +1,7 @@
 // Checks cert.bin against node.bin, both in the current folder, and prints the line of the verdict. An unopenable file is empty; of a
 // longer one the first 65,536 bytes are read, which is enough to refuse its length.
+#![tactic(auto)]
+
 use files::read_file;
 use libc::STDOUT_FILENO;
 

@@ -1,5 +1,7 @@
 // Says the verdict on each node file that an argument names, or on node.bin in the current folder where there is none.
 // An unopenable file is empty; of a longer one the first 65,536 bytes are read, which is enough to refuse its length.
+#![tactic(auto)]
+
 use answers::{CertificateVerdict, NodeVerdict, Place};
 use files::read_file;
 use libc::STDOUT_FILENO;

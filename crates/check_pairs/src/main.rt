@@ -1,5 +1,7 @@
 // Prints the verdict's line on each pair of files that two arguments in a row name, a node file and a certificate, after the
 // certificate's name.
+#![tactic(auto)]
+
 use files::read_file;
 use libc::STDOUT_FILENO;
 

@@ -1,5 +1,7 @@
 // Says whether a node is listed with its table of ranges, for each pair of files that two arguments in a row name, a node file and a
 // table file, after the table file's name. An unopenable file is empty; of a longer one the first 65,536 bytes are read.
+#![tactic(auto)]
+
 ghost use Rattle.std.specs.Prelude.{◌≡◌};
 ghost use Rattle.answers.specs.Answer.{listed_answer};
 ghost use Rattle.ranges.specs.Listing.{listing_of};

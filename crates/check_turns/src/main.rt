@@ -1,5 +1,7 @@
 // Checks certificates in turns. Arguments come in threes, a node file, a certificate and a turns file (specs/TurnsFile.antt): each turn takes the
 // record that the one before gave. One line for the record at first, after the turns file's name, and one a turn.
+#![tactic(auto)]
+
 ghost use Rattle.std.specs.Prelude.{◌≡◌};
 ghost use Rattle.rules.specs.Turns.{turn_of, line_after};
 ghost use Rattle.rules.specs.Versions.{version2};

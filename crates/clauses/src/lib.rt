@@ -1,4 +1,6 @@
 // The clauses of each operator: what an equation line may say.
+#![tactic(auto)]
+
 mod lists;
 mod operators;
 mod window;

@@ -9,7 +9,7 @@ use fields::{i32_of, i64_of};
 use literals::Literal;
 
 // The last 16 bytes.
-#[derive(Drop)]
+#[derive(Clone, Copy)]
 pub struct Trailer {
     pub first: u8,
     pub second: u8,
@@ -23,7 +23,7 @@ pub struct Trailer {
 }
 
 // A constraint but for its terms.
-#[derive(Drop)]
+#[derive(Clone, Copy)]
 pub struct ConstraintHead {
     pub count: u8,
     pub zeros: bool,
@@ -31,7 +31,7 @@ pub struct ConstraintHead {
 }
 
 // A term of a constraint.
-#[derive(Drop)]
+#[derive(Clone, Copy)]
 pub struct Term {
     pub stream: u16,
     pub offset: u8,
@@ -40,7 +40,7 @@ pub struct Term {
 }
 
 // A line but for its literals and multipliers.
-#[derive(Drop)]
+#[derive(Clone, Copy)]
 pub struct LineHead {
     pub kind: u8,
     pub count: u8,

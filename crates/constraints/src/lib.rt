@@ -1,4 +1,6 @@
 // Certificate files: their fields, the rules of the trailer, and constraints as linear forms.
+#![tactic(auto)]
+
 mod bytes;
 mod layout;
 mod rules;

@@ -1,5 +1,7 @@
 // The fields of a file: whole numbers of two, four and eight bytes, little-endian, and two's complement where signed. Each is put
 // together from the bytes, halves or words that its file's layout has read.
+#![tactic(auto)]
+
 mod signed;
 mod unsigned;
 

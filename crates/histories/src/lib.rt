@@ -1,4 +1,6 @@
 // Histories of a short pass: a count of instants, and all their inputs in turn.
+#![tactic(auto)]
+
 ghost use Rattle.std.specs.Prelude.{◌+◌, ◌*◌, ◌≤◌, ◌≡◌, true, cond, ◌&&◌, length};
 ghost use Rattle.answers.specs.Answer.{is_accepted};
 ghost use Rattle.node.specs.Equations.{type_among};

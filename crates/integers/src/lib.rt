@@ -1,5 +1,7 @@
 // Signed 64-bit arithmetic that is checked against whole numbers: each operation gives the whole-number result
 // where it lies within −2^63 .. 2^63 − 1, and says that it is outside where it does not.
+#![tactic(auto)]
+
 ghost use Rattle.std.specs.Prelude.{◌≡◌, ◌+ℤ◌, ◌-ℤ◌, ◌*ℤ◌};
 ghost use Rattle.integers.specs.Range.{checked_of, lesser, greater};
 
@@ -10,7 +12,7 @@ mod sign;
 pub use sign::magnitude;
 
 // A whole-number result, where 64 signed bits hold it.
-#[derive(Drop)]
+#[derive(Clone, Copy)]
 pub enum Checked {
     Value(i64),
     Outside,

@@ -1,4 +1,6 @@
 // The rules of one line, 16 to 20 and 22, whatever the lines before it hold.
+#![tactic(auto)]
+
 mod equations;
 mod faults;
 mod frame;

@@ -1,9 +1,11 @@
 // A literal by value: "A literal is 2·atom, plus 1 if negated".
+#![tactic(auto)]
+
 ghost use Rattle.std.specs.Prelude.{◌≡◌};
 ghost use Rattle.literals.specs.Literals.{positive, negative, atom_of, is_negated, opposite_of};
 
 // Its number, which is wider than a file's field, so that each atom has both literals.
-#[derive(Drop)]
+#[derive(Clone, Copy)]
 pub struct Literal(pub usize);
 
 impl Literal {

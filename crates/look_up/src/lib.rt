@@ -1,4 +1,6 @@
 // Looking up one stream in a short pass: "an engine that follows the equations down from the wanted stream and instant".
+#![tactic(auto)]
+
 mod answering;
 mod filling;
 mod refusals;

@@ -11,7 +11,7 @@ use streams::{
 };
 
 // A stream that is visited, and its instant.
-#[derive(Drop)]
+#[derive(Clone, Copy)]
 pub enum Visit {
     Nothing,
     At(usize, u16),

@@ -1,6 +1,8 @@
 // Looks up values of short passes. Arguments come in threes, a node file, a history file and a questions file (specs/Questions.antt). One
 // line for the history, after the questions file's name, and one a question: its value or its refusal. An unopenable file is empty; of a
 // longer one the first 65,536 bytes are read.
+#![tactic(auto)]
+
 ghost use Rattle.std.specs.Prelude.{◌<◌, ◌≡◌};
 ghost use Rattle.answers.specs.Answer.{look_up_answer};
 ghost use Rattle.look_up.specs.LookUp.{look_up_of};

@@ -1,4 +1,6 @@
 // An equation line's literals against those of a clause: how rule 17 compares.
+#![tactic(auto)]
+
 mod clause;
 mod content;
 mod factors;

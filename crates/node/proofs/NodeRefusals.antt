@@ -22,6 +22,10 @@ use Rattle.node.specs.Verdict.{passes_of, never_placed, types_verdict, records_v
 pub refusal : {answer : NodeVerdict} {number : ℕ} {place : Place} {verdict : Answer NodeValues} {A : Type 0} → answer ≡ Refused number place → refused number place ≡ verdict → (node_answer answer ≡ verdict) × (is_accepted verdict ≡ true → A)
 refusal e f = (ap node_answer e ∙ f, λ a. absurd (false≢true (ap is_accepted f ∙ a)))
 
+-- the same, of a verdict and an order that are given
+pub refusal_of : (verdict : Answer NodeValues) (A : Type 0) {answer : NodeVerdict} {number : ℕ} {place : Place} → answer ≡ Refused number place → refused number place ≡ verdict → (node_answer answer ≡ verdict) × (is_accepted verdict ≡ true → A)
+refusal_of verdict A e f = refusal e f
+
 module _ (file : List ℕ) (n property : ℕ) {answer : Answer NodeValues} {order given : List ℕ} where
   pub typed_read :
       lowest (passes_of file n Shape) n ≡ Nothing

@@ -49,10 +49,10 @@ module _ (s : List ℕ) (rules : NodeRules s) (i : ℕ) (l : i < streams_of s) w
   row = row_of r.op
 
   -- rule 7, operand by operand
-  types : (has_type row.own_val r.ty r.ty ≡ true) × (typed row.a r.ty (type_byte_of s r.a) ≡ true) × (typed row.b r.ty (type_byte_of s r.b) ≡ true) × (typed row.c r.ty (type_byte_of s r.c) ≡ true)
+  types : (has_type row.own r.ty r.ty ≡ true) × (typed row.a r.ty (type_byte_of s r.a) ≡ true) × (typed row.b r.ty (type_byte_of s r.b) ≡ true) × (typed row.c r.ty (type_byte_of s r.c) ≡ true)
   unfolding types_ok
   types =
-      let own = has_type row.own_val r.ty r.ty in
+      let own = has_type row.own r.ty r.ty in
       let a = typed row.a r.ty (type_byte_of s r.a) in
       let b = typed row.b r.ty (type_byte_of s r.b) in
       let c = typed row.c r.ty (type_byte_of s r.c) in
@@ -78,7 +78,7 @@ well_formed s rules =
     record {
       operands = λ i l. of_equation s rules i l (λ x. All (ReadOk (streams_of s) (type_at s) i) (row_reads (row_of x.op) x)) (operands_ok_is s rules i l);
       ordered = ordered (equation_at s) (streams_of s) rules.placed;
-      own = λ i l. of_equation s rules i l (λ x. type_at s i ≡ wanted_type (type_at s i) (row_of x.op).own_val) (typed_is (row s rules i l).own (type_byte_of s i) (type_byte_of s i) (types s rules i l).0);
+      own = λ i l. of_equation s rules i l (λ x. type_at s i ≡ wanted_type (type_at s i) (row_of x.op).own) (typed_is (row s rules i l).own (type_byte_of s i) (type_byte_of s i) (types s rules i l).0);
       constants = λ i l. of_equation s rules i l (λ x. InRange (row_of x.op).k (type_at s i) x.k) (shape (record_of s i) (rules.shapes i l)).constant;
       property_below = (sizes s rules.file).property;
       property_bool = rw rules.property;

@@ -89,7 +89,7 @@ typed (Before wanted) own ty = has_type wanted own ty
 -- 7: type byte or operand type not the operator's; `types` gives each record's type byte
 unfoldable pub types_ok : (types : ℕ → ℕ) → Record → Bool
 types_ok types r =
-    has_type (row_of r.op).own_val r.ty r.ty
+    has_type (row_of r.op).own r.ty r.ty
     && typed (row_of r.op).a r.ty (types r.a)
     && typed (row_of r.op).b r.ty (types r.b)
     && typed (row_of r.op).c r.ty (types r.c)

@@ -5,7 +5,7 @@ ghost use Rattle.node.specs.Equations.{decoded, type_among, equation_among};
 use crate::layout::{Record, record_among, type_byte_among};
 
 // The type of a stream.
-#[derive(Drop)]
+#[derive(Clone, Copy)]
 pub enum StreamType {
     Bool,
     Int,
@@ -14,7 +14,7 @@ pub enum StreamType {
 // One case an operator, 0 to 15 in order: "A record is one of fourteen operators, each with its own operands", and
 // "Operators 14, lesser of a and b, and 15, greater, are added". Operands stand in the order of the operator's value,
 // K·a or a, b; where c comes first they have names.
-#[derive(Drop)]
+#[derive(Clone, Copy)]
 pub enum Equation {
     Input,
     Constant(i32),

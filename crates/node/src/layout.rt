@@ -6,7 +6,7 @@ use crate::bytes::{u16_at, u32_at};
 use fields::i32_of;
 
 // The last 16 bytes.
-#[derive(Drop)]
+#[derive(Clone, Copy)]
 pub struct Trailer {
     pub first: u8,
     pub second: u8,
@@ -19,7 +19,7 @@ pub struct Trailer {
 }
 
 // A record: 16 bytes.
-#[derive(Drop)]
+#[derive(Clone, Copy)]
 pub struct Record {
     pub op: u8,
     pub ty: u8,

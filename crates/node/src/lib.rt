@@ -1,5 +1,7 @@
 // The node reader. A node file is a note, n records and a trailer; record i defines stream i. Every published call is
 // total: whatever bytes the file holds, it answers by the definition that its contract cites.
+#![tactic(auto)]
+
 mod arrays;
 mod bytes;
 mod equation;

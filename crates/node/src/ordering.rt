@@ -16,7 +16,7 @@ use crate::table::{Operand, row_of};
 use answers::Found;
 
 // The order, and the lowest record that is never placed: where there is none, the order has all.
-#[derive(Drop)]
+#[derive(Clone, Copy)]
 pub struct Order {
     pub streams: [usize; 64],
     pub unplaced: Found,

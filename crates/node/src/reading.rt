@@ -17,14 +17,14 @@ use crate::rules::{
 use answers::{Found, NodeVerdict, Place};
 
 // The verdict on a node file, and its order: stream `order[k]` is worked out as number k. Of a refused file it says nothing.
-#[derive(Drop)]
+#[derive(Clone, Copy)]
 pub struct ReadNode {
     pub verdict: NodeVerdict,
     pub order: [usize; 64],
 }
 
 // The rules that each record is held to by itself.
-#[derive(Drop)]
+#[derive(Clone, Copy)]
 pub enum RecordRule {
     Shape,
     Operands,

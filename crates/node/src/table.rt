@@ -4,7 +4,7 @@ ghost use Rattle.std.specs.Prelude.{◌≡◌};
 ghost use Rattle.node.specs.Table.{row_of, reads_it};
 
 // The type that an operator asks for.
-#[derive(Drop)]
+#[derive(Clone, Copy)]
 pub enum Wanted {
     ABool,
     AnInt,
@@ -13,7 +13,7 @@ pub enum Wanted {
 }
 
 // What an operator does with an operand.
-#[derive(Drop)]
+#[derive(Clone, Copy)]
 pub enum Operand {
     Unused,
     // It is needed now, as this type.
@@ -23,7 +23,7 @@ pub enum Operand {
 }
 
 // What an operator asks of the constant K.
-#[derive(Drop)]
+#[derive(Clone, Copy)]
 pub enum Limit {
     // The operator does not use it: 0.
     Zero,
@@ -33,7 +33,7 @@ pub enum Limit {
     Factor,
 }
 
-#[derive(Drop)]
+#[derive(Clone, Copy)]
 pub struct Row {
     pub own: Wanted,
     pub a: Operand,

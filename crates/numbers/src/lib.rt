@@ -1,4 +1,6 @@
 // Numbers of 64 bits in a row, little-endian, as files of the programs have them.
+#![tactic(auto)]
+
 mod bytes;
 
 ghost use Rattle.std.specs.Prelude.{◌≡◌, length};

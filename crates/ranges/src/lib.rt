@@ -1,4 +1,6 @@
 // Nodes for the flight list: a node comes with a range for each int stream, and one that is listed never stops for size.
+#![tactic(auto)]
+
 mod listing;
 mod refusals;
 mod results;

@@ -7,7 +7,7 @@ use node::StreamType;
 use streams::number_at;
 
 // The least and the greatest number of a range.
-#[derive(Drop)]
+#[derive(Clone, Copy)]
 pub struct Range {
     pub least: i64,
     pub greatest: i64,

@@ -1,4 +1,6 @@
 // The line that a program prints for a verdict on a certificate, and for a call of a session.
+#![tactic(auto)]
+
 ghost use Rattle.std.specs.Prelude.{◌≡◌, length, take};
 ghost use Rattle.answers.specs.Answer.{certificate_answer, instant_answer};
 ghost use Rattle.report.specs.Call.{call_line};

@@ -1,4 +1,6 @@
 // The rules of certificates: the literals and clauses that they speak of. All else here is definitions and laws.
+#![tactic(auto)]
+
 mod pattern;
 
 pub use pattern::{Clause, Linear, Named, Pattern, Position};

@@ -1,7 +1,7 @@
 // The literals that a clause of an equation has, before they are looked up in a certificate.
 
 // A linear constraint of at most three variables: a·x + b·y + c·z is at most bound.
-#[derive(Drop)]
+#[derive(Clone, Copy)]
 pub struct Linear {
     pub x: u32,
     pub a: i64,
@@ -13,7 +13,7 @@ pub struct Linear {
 }
 
 // One literal of a clause.
-#[derive(Drop)]
+#[derive(Clone, Copy)]
 pub enum Pattern {
     // A bool variable.
     Yes(u32),
@@ -24,7 +24,7 @@ pub enum Pattern {
 }
 
 // A clause of one to three literals; past the count the last one stands again.
-#[derive(Drop)]
+#[derive(Clone, Copy)]
 pub struct Clause {
     pub count: usize,
     pub first: Pattern,
@@ -33,14 +33,14 @@ pub struct Clause {
 }
 
 // The clause of a number, where an equation has one.
-#[derive(Drop)]
+#[derive(Clone, Copy)]
 pub enum Named {
     Is(Clause),
     Missing,
 }
 
 // Where in a window an equation stands: at the base's first offset, which is instant 0, at the step's first offset, or later.
-#[derive(Drop)]
+#[derive(Clone, Copy)]
 pub enum Position {
     Opening,
     Entry,

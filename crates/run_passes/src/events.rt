@@ -29,7 +29,7 @@ pub fn begun_on(s: Session, file: &[u8]) -> Session
 }
 
 // The session after an event, and how long its line is.
-#[derive(Drop)]
+#[derive(Clone, Copy)]
 struct Shown {
     session: Session,
     length: usize,

@@ -1,6 +1,8 @@
 // Runs sessions. Arguments come in twos, a node file and a pass file: a session is begun on the node, from a zeroed record, and makes
 // each event of the pass in turn, also where the beginning was refused. One line for the beginning, after the pass file's name, and
 // one an event: its values or its refusal, and then whether the refusal kept the slice.
+#![tactic(auto)]
+
 ghost use Rattle.std.specs.Prelude.{◌≡◌};
 ghost use Rattle.session.specs.Events.{after_events};
 ghost use Rattle.session.specs.Records.{begun_of};

@@ -125,10 +125,10 @@ module _ (m : Meaning) (f : Name) where
     sy = slice_val y.ref_ptr (length y.now)
 
     abbrev OwnX : Fml
-    OwnX = (ShrSlice (named 1) κ₁ i64).own_val x (sx ∷ [])
+    OwnX = (ShrSlice (named 1) κ₁ i64).own x (sx ∷ [])
 
     abbrev OwnY : Fml
-    OwnY = (MutSlice (named 2) κ₂ i64).own_val y (sy ∷ [])
+    OwnY = (MutSlice (named 2) κ₂ i64).own y (sy ∷ [])
 
     abbrev Toks : Item 𝓤
     Toks = ‵ (flft κ₁ q₁) ⊛ ‵ (flft κ₂ q₂) ⊛ ‵ ftrue
@@ -181,7 +181,7 @@ module _ (m : Meaning) (f : Name) where
           move ! (5 ∷ []) $ fsplit ! $ use1 𝓛 (‵ OwnX ⊛ ‵ OwnX) ((shr_slice_copy 𝓛 (named 1) κ₁ i64).twice x (sx ∷ [])) $ split ! $ move ! (2 ∷ []) $ fsplit ! $
           move ! (8 ∷ 2 ∷ 0 ∷ []) $ use3 𝓛 (raw ((Below m 𝓛).pre to_below)) (goes g) $
           calls_at ! fm (Below m 𝓛) known to_below (and_then ! (load ! (from ! (stop !)) (look ! 11 refl)) (and_then ! (load ! (from ! (stop !)) (look ! 17 refl)) (and_then ! (load ! (from ! (stop !)) (look ! 7 refl)) (no_more !)))) (λ w.
-          use1 𝓛 (later (some (λ (r : Stepped). (Toks ⊛ ‵ ((Result.the_row).own_val r (w ∷ []))) ⊛ raw (ensured 𝓛 below (below_says m 𝓤) (κ₁, (κ₂, tt)) (h, (x, (y, tt))) tt r)))) (id⊢ 𝓤 _) $ await ! tt $ pick ! (λ r.
+          use1 𝓛 (later (some (λ (r : Stepped). (Toks ⊛ ‵ ((Result.the_row).own r (w ∷ []))) ⊛ raw (ensured 𝓛 below (below_says m 𝓤) (κ₁, (κ₂, tt)) (h, (x, (y, tt))) tt r)))) (id⊢ 𝓤 _) $ await ! tt $ pick ! (λ r.
           split ! $ move ! (1 ∷ []) $ use1 𝓛 (some (λ (zs : Unit {0} × (Unit {0} × (List ℤ × Unit {0}))). ‵ (lasts below (κ₁, (κ₂, tt)) (h, (x, (y, tt))) zs) ⊛ raw (fact 𝓤 (Known r zs.1.1.0)))) (id⊢ 𝓤 _) $ pick ! (λ zs.
           split ! $ move ! (1 ∷ []) $ heard ! (Known r zs.1.1.0) (λ e. fsplit ! $ drop ! $ fsplit ! $ drop ! $ fsplit ! $ fsplit ! $ move ! (1 ∷ []) $ feq_l ! (λ l.
           move ! (2 ∷ []) $ split ! $ move ! (1 ∷ []) $ peeks ! Result.the_row (Is Result.the_row) (shows 𝓛 Result.the_row) r (w ∷ []) (λ is. drop ! $

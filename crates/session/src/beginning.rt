@@ -10,7 +10,7 @@ use answers::NodeVerdict;
 use node::verdict;
 
 // The answer, and the record that the call leaves.
-#[derive(Drop)]
+#[derive(Clone, Copy)]
 pub struct BegunSession {
     pub answer: NodeVerdict,
     pub session: Session,

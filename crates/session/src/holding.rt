@@ -11,14 +11,14 @@ use node::{read, type_among};
 use streams::{is_typed, number_at};
 
 // The node that a record holds: how many streams it has.
-#[derive(Drop)]
+#[derive(Clone, Copy)]
 pub enum HeldNode {
     Streams(usize),
     NoNode,
 }
 
 // The node, and the order of its evaluation: stream `order[k]` is worked out as number k. Where there is no node it says nothing.
-#[derive(Drop)]
+#[derive(Clone, Copy)]
 pub struct Held {
     pub node: HeldNode,
     pub order: [usize; 64],

@@ -1,4 +1,6 @@
 // Sessions: a node run instant by instant over a record that the caller lends.
+#![tactic(auto)]
+
 mod beginning;
 mod committing;
 mod holding;
@@ -17,7 +19,7 @@ pub use making::{Stepped, step, tried};
 // a trial's where one is held.
 // C and Rust lend it too: any bytes make a record, and it has no padding, for the last field fills it up.
 #[repr(C)]
-#[derive(Drop)]
+#[derive(Clone, Copy)]
 pub struct Session {
     pub length: usize,
     pub last: [i64; 64],

@@ -11,7 +11,7 @@ use crate::records::{moved_to, with_trial};
 use answers::InstantVerdict;
 
 // The answer, and the record that the call leaves.
-#[derive(Drop)]
+#[derive(Clone, Copy)]
 pub struct Stepped {
     pub answer: InstantVerdict,
     pub session: Session,

@@ -12,7 +12,7 @@ use node::input_count;
 use streams::{first_bad, worked_out};
 
 // The answer, and the values of an answered call.
-#[derive(Drop)]
+#[derive(Clone, Copy)]
 pub struct Outcome {
     pub answer: InstantVerdict,
     pub values: [i64; 64],

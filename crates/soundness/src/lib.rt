@@ -1,4 +1,6 @@
 // An accepted certificate proves its property.
+#![tactic(auto)]
+
 ghost use Rattle.std.specs.Prelude.{◌≡◌, true};
 ghost use Rattle.answers.specs.Answer.{is_accepted};
 ghost use Rattle.rules.specs.Verdict.{verdict_of};

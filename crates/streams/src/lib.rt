@@ -1,5 +1,7 @@
 // What a node means over 64-bit numbers: the value of one equation, that of its operator's row where 64 signed bits hold it, and of
 // all streams at one instant. Every published call is total but `worked_out`, which asks for an accepted file and its order.
+#![tactic(auto)]
+
 ghost use Rattle.std.specs.Prelude.{◌≡◌};
 ghost use Rattle.integers.specs.Range.{checked_of};
 ghost use Rattle.streams.specs.Meaning.{meaning};

@@ -15,7 +15,7 @@ use integers::Checked;
 use node::{equation_among, with_record};
 
 // The first stream in the order whose value 64 signed bits do not hold, and the values where there is none.
-#[derive(Drop)]
+#[derive(Clone, Copy)]
 pub struct Worked {
     pub outside: Found,
     pub values: [i64; 64],

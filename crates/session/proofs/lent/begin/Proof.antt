@@ -89,7 +89,7 @@ module _ {M : Type 1} {𝓤 : Ura M} (𝓛 : Logic 𝓤) (at_mem : Memory → SP
   sx = slice_val x.ref_ptr (length x.now)
 
   abbrev OwnX : Fml
-  OwnX = (ShrSlice (named 1) κ₁ u8).own_val x (sx ∷ [])
+  OwnX = (ShrSlice (named 1) κ₁ u8).own x (sx ∷ [])
 
   abbrev Toks : Item 𝓤
   Toks = ‵ (flft κ₁ q₁) ⊛ ‵ ftrue
@@ -141,7 +141,7 @@ module _ {M : Type 1} {𝓤 : Ura M} (𝓛 : Logic 𝓤) (at_mem : Memory → SP
         move ! (5 ∷ []) $ fsplit ! $ use1 𝓛 (‵ OwnX ⊛ ‵ OwnX) ((shr_slice_copy 𝓛 (named 1) κ₁ u8).twice x (sx ∷ [])) $ split ! $
         move ! (7 ∷ 0 ∷ []) $ use2 𝓛 (raw ((Callee 𝓛 at_mem run).pre to_callee)) (goes g) $
         calls_at ! fm (Callee 𝓛 at_mem run) known to_callee (and_then ! (load ! (from ! (stop !)) (look ! 7 refl)) (and_then ! (load ! (from ! (stop !)) (look ! 11 refl)) (no_more !))) (λ w.
-        use1 𝓛 (later (some (λ (r : BegunSession). (Toks ⊛ ‵ ((Result.the_row).own_val r (w ∷ []))) ⊛ raw (ensured 𝓛 callee.ended (callee.clauses 𝓛 at_mem run) (κ₁, tt) (h, (x, tt)) tt r)))) (id⊢ 𝓤 _) $ await ! tt $ pick ! (λ r.
+        use1 𝓛 (later (some (λ (r : BegunSession). (Toks ⊛ ‵ ((Result.the_row).own r (w ∷ []))) ⊛ raw (ensured 𝓛 callee.ended (callee.clauses 𝓛 at_mem run) (κ₁, tt) (h, (x, tt)) tt r)))) (id⊢ 𝓤 _) $ await ! tt $ pick ! (λ r.
         split ! $ move ! (1 ∷ []) $ use1 𝓛 (raw (fact 𝓤 (Said r))) (said r) $ heard ! (Said r) (λ e. split ! $ move ! (1 ∷ []) $ peeks ! Result.the_row (Is Result.the_row) (shows 𝓛 Result.the_row) r (w ∷ []) (λ is. drop ! $
         -- [Toks; what the slice owns; true; the record's cell; the open borrow; obs; auth; _4; …]: the result is spelled out, and its parts stored
         land ! (from ! (stop !)) (init ! 9 refl ((LL.lawful Result.the_type Result'.the_laws 𝓛).typed r _ is).0) $ rewrite ! 9 (λ (u : Val). ‵ (fat full_share Result'.mir l₃ 0 u)) (ap only (LL.tells Result.the_type Result'.the_laws r _ is)) refl $

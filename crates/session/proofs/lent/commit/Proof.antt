@@ -107,7 +107,7 @@ module _ {M : Type 1} {𝓤 : Ura M} (𝓛 : Logic 𝓤) (at_mem : Memory → SP
         -- the call
         move ! (4 ∷ []) $ use1 𝓛 (raw ((Callee 𝓛 at_mem run).pre to_callee)) (goes g) $
         calls_at ! fm (Callee 𝓛 at_mem run) known to_callee (and_then ! (load ! (from ! (stop !)) (look ! 6 refl)) (no_more !)) (λ w.
-        use1 𝓛 (later (some (λ (r : Stepped). (‵ ftrue ⊛ ‵ ((Result.the_row).own_val r (w ∷ []))) ⊛ raw (ensured 𝓛 callee.ended (callee.clauses 𝓛 at_mem run) tt (h, tt) tt r)))) (id⊢ 𝓤 _) $ await ! tt $ pick ! (λ r.
+        use1 𝓛 (later (some (λ (r : Stepped). (‵ ftrue ⊛ ‵ ((Result.the_row).own r (w ∷ []))) ⊛ raw (ensured 𝓛 callee.ended (callee.clauses 𝓛 at_mem run) tt (h, tt) tt r)))) (id⊢ 𝓤 _) $ await ! tt $ pick ! (λ r.
         split ! $ move ! (1 ∷ []) $ use1 𝓛 (raw (fact 𝓤 (Said r))) (said r) $ heard ! (Said r) (λ e. split ! $ move ! (1 ∷ []) $ peeks ! Result.the_row (Is Result.the_row) (shows 𝓛 Result.the_row) r (w ∷ []) (λ is. drop ! $
         -- [true; the record's cell; the open borrow; obs; auth; true; _3; …]: the result is spelled out, and its parts stored
         land ! (from ! (stop !)) (init ! 8 refl ((LL.lawful Result.the_type Result'.the_laws 𝓛).typed r _ is).0) $ rewrite ! 8 (λ (u : Val). ‵ (fat full_share Result'.mir l₂ 0 u)) (ap only (LL.tells Result.the_type Result'.the_laws r _ is)) refl $
