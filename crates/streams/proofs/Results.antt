@@ -14,4 +14,4 @@ pub whole_is : (z : ℤ) → SFits w64 z → Value (rd w64 z) ≡ checked_of z
 whole_is z f = ap Value (to_z-of_z f) ∙ sym (within z f)
 
 pub widened : (z : ℤ) → SFits w32 z → rd w64 (rd w32 z) ≡ z
-widened z f = ap (rd w64) (to_z-of_z f) ∙ to_z-of_z (sfits_widen tt f)
+widened z f = ap (rd w64) (to_z-of_z f) ∙ to_z-of_z {w = w64} (sfits_widen {w = w32} {w' = w64} tt f)
