@@ -1,5 +1,5 @@
 -- The conditions 12 to 15 of "Where each refusal is met", each as the test that a file passes. 11 is tested as 1 is (node/specs/Rules).
-use Rattle.std.specs.Prelude.{ℕ, zero, ◌+◌, ◌-◌, ◌*◌, List, Bool, cond, not, ◌&&◌, ◌||◌, leb, ltb, eqb, ℤ, pos, neg_ℤ, get_or}
+use Rattle.std.specs.Prelude.{ℕ, ◌+◌, ◌-◌, ◌*◌, List, Bool, cond, not, ◌&&◌, ◌||◌, leb, ltb, eqb, ℤ, pos, neg_ℤ, get_or}
 use Rattle.answers.specs.Checks.{every}
 use Rattle.std.specs.Int.Signed.{le_z}
 use Rattle.constraints.specs.declared.layout.Term.{Term}
