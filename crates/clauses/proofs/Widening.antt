@@ -17,7 +17,7 @@ minus_fits = by_diff _ (λ p q. simp zify (omega arith))
 -- what a word of 64 bits reads as, where it was made of a word of 32
 module _ (z k : ℤ) (f : SFits w32 k) where
   pub wide_read : z ≡ to_z w32 (of_z w32 k) → to_z w64 (of_z w64 z) ≡ k
-  wide_read e = rw (e, to_z-of_z f) (to_z-of_z (sfits_widen {w = w32} tt f))
+  wide_read e = rw (e, to_z-of_z f) (to_z-of_z {w = w64} (sfits_widen {w = w32} {w' = w64} tt f))
 
   pub minus_read : z ≡ neg_ℤ (to_z w32 (of_z w32 k)) → to_z w64 (of_z w64 z) ≡ neg_ℤ k
   minus_read e = rw (e, to_z-of_z f) (to_z-of_z (minus_fits k f))

@@ -1,0 +1,12 @@
+-- `clauses::of_one` meets its contract: in each arm the number is that arm's.
+use mathlib.Core.Path.{sym}
+use mathlib.Core.List.{[], ◌∷◌}
+use native.Mathlib.Omega.{arith}
+use Rattle.clauses.proofs.Numbering.{past_end}
+use Rattle.clauses.proofs.lists.of_one.Goals as goal
+
+pub returns-in-0 : goal.returns-in-0
+returns-in-0 c = rw c.in-0.is
+
+pub returns-in_default : goal.returns-in_default
+returns-in_default c = sym (past_end (c.args.c ∷ []) c.args.r (omega arith))
