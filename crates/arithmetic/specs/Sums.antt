@@ -1,7 +1,7 @@
 -- The sums of a line as an array holds them: one entry a variable.
 use Rattle.std.specs.Prelude.{ℕ, ◌+◌, ◌*◌, List, [], ◌∷◌, Bool, cond, ℤ, pos, neg_ℤ, ◌+ℤ◌, ◌-ℤ◌, get_or, set, replicate}
 use Rattle.answers.specs.Checks.{every}
-use Rattle.constraints.specs.Layout.{Constraint, Line, used_in, listed_in, constraint_at, literal_at}
+use Rattle.constraints.specs.Layout.{Constraint, Line, used_in, listed_in, literal_at}
 use Rattle.constraints.specs.Linear.{Form, variable, same_z}
 use Rattle.literals.specs.Literals.{atom_of, is_negated, is_constraint, constraint_number}
 use Rattle.rules.specs.Arithmetic.{sum_of}
