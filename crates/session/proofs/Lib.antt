@@ -3,12 +3,8 @@ pub mod Beginnings
 pub mod CallAnswers
 pub mod Filled
 pub mod HeldNodes
-pub mod InstantWalk
 pub mod Judging
 pub mod JustBegun
-pub mod Kept
-pub mod LentRecord
-pub mod Meanings
 pub mod Nodes
 pub mod OldCalls
 pub mod Sessions

@@ -8,7 +8,7 @@ use lib.ListN.{length}
 use Rattle.answers.specs.Answer.{Answer, accepted, refused, if_accepted}
 use Rattle.node.specs.Reads.{All}
 use Rattle.session.specs.declared.Session.{Session}
-use Rattle.session.specs.Events.{Event, trial, commit, old_call, Run, begun_run, trying, committing, run_after, after_events, last_run, runs}
+use Rattle.session.specs.Events.{Event, old_call, Run, begun_run, trying, committing, run_after, after_events, last_run, runs}
 use Rattle.session.specs.Instants.{worked_out, answer_of, slice_of, tried, trial_of, commit_of, session_of}
 use Rattle.session.specs.Lists.{Call, Answered, answer_to, after, slice_after, told, after_all, answered}
 use Rattle.session.specs.Records.{begun_of}

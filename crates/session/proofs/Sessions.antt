@@ -1,7 +1,6 @@
 -- Every list of events from an answered beginning shows the solutions' values, and every event after it gets the answer that they give.
 -- Assumes nothing.
 use mathlib.Core.Path.{◌≡◌, refl, sym, subst}
-use mathlib.Core.Bool.{not}
 use mathlib.Core.List.{List, [], ◌∷◌}
 use Prim.Native.Nat.{ℕ}
 use Rattle.answers.specs.declared.Place.{Place}
