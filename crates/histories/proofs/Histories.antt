@@ -27,7 +27,7 @@ use Rattle.streams.proofs.Orders.{place_of, ranked_by_place, worked_out_order_is
 use Rattle.session.proofs.CallAnswers.{typed_inputs, typed}
 use Rattle.session.proofs.Judging.{noughts_typed}
 use Rattle.histories.specs.History.{inputs_at, count_ok, bad_input, endless, history_values}
-use Rattle.histories.specs.Theorems.{TypedHistory, SolvesHistory, HistoryMeans, HistoriesMean}
+use Rattle.histories.specs.Theorems.{TypedHistory, SolvesHistory, HistoriesMean}
 use Rattle.histories.proofs.Parts.{counted, is_count, part_count, each, none_of_each}
 
 module _ (file : List ℕ) {node : NodeValues} (e : verdict_of file ≡ accepted node) (count : ℕ) (inputs : List ℤ) where

@@ -1,7 +1,7 @@
 -- A session on a listed node, whose int inputs have all been inside their ranges, is never stopped by 34.
 -- Assumes nothing.
 use mathlib.Core.Path.{◌≡◌, refl, sym, ◌∙◌, ap, subst}
-use mathlib.Core.Bool.{Bool, true, false, not, false≢true}
+use mathlib.Core.Bool.{Bool, true, false, false≢true}
 use mathlib.Core.List.{List}
 use mathlib.Core.Logic.{⊎_elim}
 use Prim.Native.Nat.{ℕ, ◌<◌, ◌≤◌}
@@ -22,7 +22,7 @@ use Rattle.answers.specs.declared.Place.TheVariants.{File, Record as AtRecord}
 use Rattle.answers.specs.Answer.{Answer, accepted, refused, NodeValues}
 use Rattle.answers.specs.Checks.{lowest}
 use Rattle.answers.proofs.Checks.{by_check, by_check_all}
-use Rattle.answers.proofs.Lowest.{none, all}
+use Rattle.answers.proofs.Lowest.{none}
 use Rattle.node.specs.declared.equation.StreamType.{StreamType}
 use Rattle.node.specs.declared.equation.StreamType.TheVariants.{Bool as BoolType, Int as IntType}
 use Rattle.node.specs.Equations.{type_at}
