@@ -1,10 +1,8 @@
 -- `matching::do_agree_elsewhere` meets its contract: at a variable of d they agree already.
--- Assumes nothing.
 use mathlib.Core.Path.{◌≡◌, sym, subst}
 use mathlib.Core.Logic.{◌⊎◌, inl, inr}
 use mathlib.Core.Bool.{Bool, true, ◌&&◌, ◌||◌}
 use Prim.Native.Nat.{ℕ}
-use borrow.Author.Rules.{rules}
 use borrow.Author.Tests.{eqb-true}
 use lib.Dec.{eqb}
 use Rattle.answers.proofs.Tests.{both_true, either_true}
@@ -13,8 +11,7 @@ use Rattle.constraints.specs.Linear.{Form, written, agree_at}
 use Rattle.rules.specs.declared.pattern.Linear.{Linear}
 use Rattle.rules.specs.Clauses.{bounded_of}
 use Rattle.matching.specs.Content.{agree}
-use Rattle.matching.proofs.content.do_agree_elsewhere.Statement.{statement}
-use Rattle.matching.proofs.content.do_agree_elsewhere.Tie as tie
+use Rattle.matching.proofs.content.do_agree_elsewhere.Goals as goal
 
 -- one of three variables
 module _ (f : Form) (d : Linear) (known : agree_at f (bounded_of d).form (bounded_of d).form ≡ true) (x : ℕ) where
@@ -43,16 +40,8 @@ module _ (f : Form) (d : Linear) (known : agree_at f (bounded_of d).form (bounde
       go (inl p) = early (either_true (eqb x d.x) (eqb x d.y) p)
       go (inr p) = at_variable d.z each.2 p
 
-do-agree-requires : tie.Need-do-agree-requires
-do-agree-requires c κs = search rules
+pub returns-then-x-d : goal.returns-then-x-d
+returns-then-x-d c = sym (at_one (written (constraint_at c.args.file.now c.args.at) c.args.count) c.args.d c.requires.d_value c.args.x c.if-x-d.true)
 
-returns : tie.Need-returns
-returns c =
-    let s = c.before.before.before.before.before in
-    sym (at_one (written (constraint_at s.args.file.now s.args.at) s.args.count) s.args.d s.requires.1 s.args.x c.if1.true)
-
-returns-2 : tie.Need-returns-2
-returns-2 c = c.do-agree.ensures
-
-pub do_agree_elsewhere_spec : {M : Type 1} → statement M
-do_agree_elsewhere_spec = tie.close (tie.spec returns do-agree-requires returns-2)
+pub returns : goal.returns
+returns c = c.do_agree.ensures
