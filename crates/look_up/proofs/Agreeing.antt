@@ -2,7 +2,6 @@
 -- has answered them, so none of their values is outside.
 -- Assumes nothing.
 use mathlib.Core.Path.{◌≡◌, sym, ◌∙◌, ap}
-use mathlib.Core.Bool.{true}
 use mathlib.Core.List.{List}
 use Prim.Native.Nat.{ℕ, ◌<◌, ◌≤◌}
 use native.Mathlib.Nat.{lt_of_le_of_lt, lt_of_lt_of_le, le_refl}

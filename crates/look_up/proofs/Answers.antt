@@ -1,7 +1,7 @@
 -- The answer to a look-up from what the recursion says, test by test.
 -- Assumes nothing.
-use mathlib.Core.Path.{◌≡◌, refl, sym, ◌∙◌, ap, subst}
-use mathlib.Core.Bool.{Bool, true, false, ◌&&◌, true≢false}
+use mathlib.Core.Path.{◌≡◌, refl, sym, ◌∙◌, ap}
+use mathlib.Core.Bool.{Bool, true, false, true≢false}
 use mathlib.Core.List.{List}
 use Prim.Native.Nat.{ℕ, ◌*◌, ◌<◌, ◌≤◌}
 use native.Mathlib.Omega.{arith}
@@ -11,11 +11,10 @@ use lib.IntN.{ℤ}
 use lib.ListN.{replicate}
 use Rattle.integers.specs.declared.Checked.{Checked}
 use Rattle.integers.specs.declared.Checked.TheVariants.{Value, Outside}
-use Rattle.answers.specs.declared.Found.{Found}
 use Rattle.answers.specs.declared.Found.TheVariants.{At, Nothing}
 use Rattle.answers.specs.declared.Place.TheVariants.{File, Record as AtRecord}
 use Rattle.answers.specs.Answer.{Answer, accepted, refused, NodeValues}
-use Rattle.answers.specs.Checks.{check, check_all}
+use Rattle.answers.specs.Checks.{check}
 use Rattle.answers.proofs.Tests.{both_true}
 use Rattle.node.specs.Equations.{equation_at}
 use Rattle.node.specs.Inputs.{input_count}
