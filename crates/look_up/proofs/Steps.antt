@@ -50,6 +50,10 @@ to_there es v i a (Value x) h = (h.0, λ j r to. subst (λ (k : ℕ). VisitedIns
 to_there es v i a Outside h = record { instant = i; stream = a; led = (refl, refl); some = h }
 
 module _ (file : List ℕ) (values : List ℤ) (known : List ℕ) (values' : List ℤ) (known' : List ℕ) where
+  pub followed_none : (visit : Visit) → visit ≡ Nothing → Followed file visit values known values known (Value (pos 0))
+  followed_none visit e =
+      record { shows = λ v k obeys early short table. (table, subst (λ (o : Visit). OutcomeTo (equation_at file) v o (Value (pos 0))) (sym e) (refl, λ j r to. absurd to)) }
+
   pub followed_there : (i a : ℕ) (visit : Visit) (b : Bool) → visit ≡ At i a → LookedUp file i a values known values' known' b → Followed file visit values known values' known' (handed values' i a b)
   followed_there i a visit b e l =
       record {
@@ -66,6 +70,9 @@ sooner Nothing t k l e = tt
 sooner (At i a) t k l e = omega (arith, l, e)
 
 module _ (file : List ℕ) (n t s : ℕ) (ready : Ready file n t s) (values : List ℤ) (known : List ℕ) where
+  pub hit : get_or known (64 * t + s) 0 ≡ 1 → LookedUp file t s values known values known true
+  hit e = record { shows = λ v k obeys early short table. (table, table.kept t s early (below file n t s ready) e) }
+
   module _ (v₁ : List ℤ) (k₁ : List ℕ) (o₁ : Visit) (r₁ : Checked) (is₁ : o₁ ≡ first_visit (equation_at file s) t) (f₁ : Followed file o₁ values known v₁ k₁ r₁) where
     early_one : (k : ℕ) → t < k → VisitEarly o₁ k
     early_one k l = subst (λ (o : Visit). VisitEarly o k) (sym is₁) (sooner (first_visit (equation_at file s) t) t k l (one_falls file (accepts file n t s ready) t s ready.early (below file n t s ready)).early)
