@@ -1,7 +1,7 @@
 /* Conuhawe: node files, sessions and induction certificates for Lustre booking nodes.
  *
  * Every function here is proved to meet its contract (crates/capi/src), which states the whole outcome for any arguments that this
- * header allows. Link with target/staticlib/libcapi.a, made by `rt staticlib capi`, on x86-64 Linux.
+ * header allows. Link with target/staticlib/libcapi.a, made by `tools/build capi`, on x86-64 Linux.
  *
  * What the caller owes, of every call:
  * - A pointer is not null, also where the length beside it is 0, and is aligned as its type asks.

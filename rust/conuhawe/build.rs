@@ -1,4 +1,4 @@
-//! Links `target/staticlib/libcapi.a` of the repository, which `rt staticlib capi` proves and writes.
+//! Links `target/staticlib/libcapi.a` of the repository, which `tools/build capi` proves and writes.
 
 use std::env;
 use std::path::Path;
@@ -11,7 +11,7 @@ fn main() {
     println!("cargo::rerun-if-changed={}", library.display());
     if !library.is_file() {
         let path = library.display();
-        println!("cargo::error={path} is missing: run `rt staticlib capi` in the repository");
+        println!("cargo::error={path} is missing: run `tools/build capi` in the repository");
         exit(1);
     }
     println!("cargo::rustc-link-search=native={}", folder.display());
