@@ -3,14 +3,14 @@
 #![tactic(auto)]
 
 use files::read_file;
-use libc::STDOUT_FILENO;
 
-fn main() {
-    let mut node = io::large_buffer();
-    let mut cert = io::large_buffer();
-    let n = read_file(b"node.bin", &mut node);
-    let m = read_file(b"cert.bin", &mut cert);
+fn main(rt: HostRuntime) {
+    let mut node = [0u8; 65536];
+    let mut cert = [0u8; 65536];
+    let n = read_file(&rt, b"node.bin", &mut node);
+    let m = read_file(&rt, b"cert.bin", &mut cert);
     let mut line = [0u8; 96];
     let length = report::write_line(certificate::verdict(&node[..n], &cert[..m]), &mut line);
-    io::write_all(STDOUT_FILENO, &line[..length]);
+    // A write that fails is passed over.
+    let _ = rt.write_all(&line[..length]);
 }

@@ -3,61 +3,60 @@
 #![tactic(auto)]
 
 use answers::{CertificateVerdict, NodeVerdict, Place};
-use files::read_file;
-use libc::STDOUT_FILENO;
+use files::{argument, argument_count, read_file};
+use std::rt::{Env, Files};
 
-fn say(text: &[u8]) {
-    io::write_all(STDOUT_FILENO, text);
+// A write that fails is passed over.
+fn say(rt: &impl Print, text: &[u8]) {
+    let _ = rt.write_all(text);
 }
 
-fn say_number(before: &[u8], n: usize) {
-    say(before);
-    io::print_decimal(STDOUT_FILENO, n as u64);
+fn say_number(rt: &impl Print, before: &[u8], n: usize) {
+    say(rt, before);
+    let _ = rt.print(n);
 }
 
 // A refusal is said as that of a certificate is.
-fn say_refused(number: usize, place: Place) {
+fn say_refused(rt: &impl Print, number: usize, place: Place) {
     let mut line = [0u8; 96];
     let length = report::write_line(CertificateVerdict::Refused(number, place), &mut line);
-    say(&line[..length]);
+    say(rt, &line[..length]);
 }
 
 // One line: the verdict, and of an accepted file also its inputs and how long its note is.
-fn say_verdict(file: &[u8]) {
+fn say_verdict(rt: &impl Print, file: &[u8]) {
     match node::verdict(file) {
         NodeVerdict::Accepted { streams, property } => {
-            say_number(b"accepted streams ", streams);
-            say_number(b" property ", property);
-            say_number(b" inputs ", node::input_count(file));
-            say_number(b" note ", node::note(file).len());
-            say(b"\n");
+            say_number(rt, b"accepted streams ", streams);
+            say_number(rt, b" property ", property);
+            say_number(rt, b" inputs ", node::input_count(file));
+            say_number(rt, b" note ", node::note(file).len());
+            say(rt, b"\n");
         }
-        NodeVerdict::Refused(number, place) => say_refused(number, place),
+        NodeVerdict::Refused(number, place) => say_refused(rt, number, place),
     }
 }
 
-fn check_file(path: &[u8]) {
-    let mut buffer = io::large_buffer();
-    let n = read_file(path, &mut buffer);
-    say_verdict(&buffer[..n]);
+fn check_file(rt: &(impl Files + Print), path: &[u8]) {
+    let mut buffer = [0u8; 65536];
+    let n = read_file(rt, path, &mut buffer);
+    say_verdict(rt, &buffer[..n]);
 }
 
-fn check_argument(i: usize) {
-    let mut path = io::buffer();
-    let length = os::arg(i, &mut path);
-    say(&path[..length]);
-    say(b": ");
-    check_file(&path[..length]);
+fn check_argument(rt: &(impl Env + Files + Print), i: usize) {
+    let mut path = [0u8; 4096];
+    let length = argument(rt, i, &mut path);
+    say(rt, &path[..length]);
+    say(rt, b": ");
+    check_file(rt, &path[..length]);
 }
 
-fn main() {
-    let count = os::arg_count();
+fn main(rt: HostRuntime) {
+    let count = argument_count(&rt);
     if count < 2 {
-        check_file(b"node.bin");
+        check_file(&rt, b"node.bin");
     }
-    let mut i = 1;
-    while i < count {
-        check_argument(i);
-        i += 1;
+    for i in 1..count {
+        check_argument(&rt, i);
     }
 }

@@ -2,40 +2,39 @@
 // certificate's name.
 #![tactic(auto)]
 
-use files::read_file;
-use libc::STDOUT_FILENO;
+use files::{argument, argument_count, read_file};
+use std::rt::{Env, Files};
 
-fn say(text: &[u8]) {
-    io::write_all(STDOUT_FILENO, text);
+// A write that fails is passed over.
+fn say(rt: &impl Print, text: &[u8]) {
+    let _ = rt.write_all(text);
 }
 
-fn check_files(node_path: &[u8], cert_path: &[u8]) {
-    let mut node = io::large_buffer();
-    let mut cert = io::large_buffer();
-    let n = read_file(node_path, &mut node);
-    let m = read_file(cert_path, &mut cert);
+fn check_files(rt: &(impl Files + Print), node_path: &[u8], cert_path: &[u8]) {
+    let mut node = [0u8; 65536];
+    let mut cert = [0u8; 65536];
+    let n = read_file(rt, node_path, &mut node);
+    let m = read_file(rt, cert_path, &mut cert);
     let mut line = [0u8; 96];
     let length = report::write_line(certificate::verdict(&node[..n], &cert[..m]), &mut line);
-    say(&line[..length]);
+    say(rt, &line[..length]);
 }
 
 // The pair that two arguments name.
-fn check_pair(node_number: usize, cert_number: usize) {
-    let mut node_path = io::buffer();
-    let mut cert_path = io::buffer();
-    let n = os::arg(node_number, &mut node_path);
-    let m = os::arg(cert_number, &mut cert_path);
-    say(&cert_path[..m]);
-    say(b": ");
-    check_files(&node_path[..n], &cert_path[..m]);
+fn check_pair(rt: &(impl Env + Files + Print), node_number: usize, cert_number: usize) {
+    let mut node_path = [0u8; 4096];
+    let mut cert_path = [0u8; 4096];
+    let n = argument(rt, node_number, &mut node_path);
+    let m = argument(rt, cert_number, &mut cert_path);
+    say(rt, &cert_path[..m]);
+    say(rt, b": ");
+    check_files(rt, &node_path[..n], &cert_path[..m]);
 }
 
 // Argument 0 is the program's own name. A last node file without a certificate's name has an empty one.
-fn main() {
-    let pairs = os::arg_count() / 2;
-    let mut pair = 0;
-    while pair < pairs {
-        check_pair(2 * pair + 1, 2 * pair + 2);
-        pair += 1;
+fn main(rt: HostRuntime) {
+    let pairs = argument_count(&rt) / 2;
+    for pair in 0..pairs {
+        check_pair(&rt, 2 * pair + 1, 2 * pair + 2);
     }
 }

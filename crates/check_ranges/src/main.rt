@@ -8,13 +8,14 @@ ghost use Rattle.ranges.specs.Listing.{listing_of};
 ghost use Rattle.check_ranges.specs.Table.{size_of, table_of};
 
 use answers::{CertificateVerdict, ListedVerdict};
-use files::read_file;
-use libc::STDOUT_FILENO;
+use files::{argument, argument_count, read_file};
 use numbers::read_numbers;
 use ranges::listed;
+use std::rt::{Env, Files};
 
-fn say(text: &[u8]) {
-    io::write_all(STDOUT_FILENO, text);
+// A write that fails is passed over.
+fn say(rt: &impl Print, text: &[u8]) {
+    let _ = rt.write_all(text);
 }
 
 // How many numbers a table file has: 8 bytes each. One whose length is no multiple of 8 has none, and more than 129, which is one
@@ -40,42 +41,40 @@ fn listing(node: &[u8], bytes: &[u8]) -> ListedVerdict
 }
 
 // A refusal is said as that of a certificate is.
-fn say_verdict(verdict: ListedVerdict) {
+fn say_verdict(rt: &impl Print, verdict: ListedVerdict) {
     match verdict {
-        ListedVerdict::Listed => say(b"listed\n"),
+        ListedVerdict::Listed => say(rt, b"listed\n"),
         ListedVerdict::Refused(number, place) => {
             let mut line = [0u8; 96];
             let length = report::write_line(CertificateVerdict::Refused(number, place), &mut line);
-            say(&line[..length]);
+            say(rt, &line[..length]);
         }
     }
 }
 
-fn check_files(node_path: &[u8], table_path: &[u8]) {
-    let mut node = io::large_buffer();
-    let mut table = io::large_buffer();
-    let n = read_file(node_path, &mut node);
-    let m = read_file(table_path, &mut table);
-    say_verdict(listing(&node[..n], &table[..m]));
+fn check_files(rt: &(impl Files + Print), node_path: &[u8], table_path: &[u8]) {
+    let mut node = [0u8; 65536];
+    let mut table = [0u8; 65536];
+    let n = read_file(rt, node_path, &mut node);
+    let m = read_file(rt, table_path, &mut table);
+    say_verdict(rt, listing(&node[..n], &table[..m]));
 }
 
 // The pair that two arguments name.
-fn check_pair(node_number: usize, table_number: usize) {
-    let mut node_path = io::buffer();
-    let mut table_path = io::buffer();
-    let n = os::arg(node_number, &mut node_path);
-    let m = os::arg(table_number, &mut table_path);
-    say(&table_path[..m]);
-    say(b": ");
-    check_files(&node_path[..n], &table_path[..m]);
+fn check_pair(rt: &(impl Env + Files + Print), node_number: usize, table_number: usize) {
+    let mut node_path = [0u8; 4096];
+    let mut table_path = [0u8; 4096];
+    let n = argument(rt, node_number, &mut node_path);
+    let m = argument(rt, table_number, &mut table_path);
+    say(rt, &table_path[..m]);
+    say(rt, b": ");
+    check_files(rt, &node_path[..n], &table_path[..m]);
 }
 
 // Argument 0 is the program's own name. A last node file without a table file's name has an empty table.
-fn main() {
-    let pairs = os::arg_count() / 2;
-    let mut pair = 0;
-    while pair < pairs {
-        check_pair(2 * pair + 1, 2 * pair + 2);
-        pair += 1;
+fn main(rt: HostRuntime) {
+    let pairs = argument_count(&rt) / 2;
+    for pair in 0..pairs {
+        check_pair(&rt, 2 * pair + 1, 2 * pair + 2);
     }
 }

@@ -9,107 +9,117 @@ ghost use Rattle.check_turns.specs.TurnsFile.{first_line, quotas_of};
 
 use answers::{CertificateVerdict, TurnVerdict};
 use certificate::{Progress, turn};
-use files::read_file;
-use libc::STDOUT_FILENO;
+use files::{argument, argument_count, read_file};
 use numbers::unsigned_at;
+use std::rt::{Env, Files};
 
-fn say(bytes: &[u8]) {
-    io::write_all(STDOUT_FILENO, bytes);
+// A write that fails is passed over.
+fn say(rt: &impl Print, bytes: &[u8]) {
+    let _ = rt.write_all(bytes);
 }
 
-fn say_number(n: usize) {
-    io::print_decimal(STDOUT_FILENO, n as u64);
+fn say_number(rt: &impl Print, n: usize) {
+    let _ = rt.print(n);
 }
 
 // The record that the first turn takes.
-fn say_begun(line: usize) {
-    say(b"from line ");
-    say_number(line);
-    say(b"\n");
+fn say_begun(rt: &impl Print, line: usize) {
+    say(rt, b"from line ");
+    say_number(rt, line);
+    say(rt, b"\n");
 }
 
 // A turn's quota, the number checked and the line of its record.
-fn say_moved(quota: usize, checked: usize, line: usize) {
-    say(b"quota ");
-    say_number(quota);
-    say(b": checked ");
-    say_number(checked);
-    say(b" to line ");
-    say_number(line);
-    say(b": ");
+fn say_moved(rt: &impl Print, quota: usize, checked: usize, line: usize) {
+    say(rt, b"quota ");
+    say_number(rt, quota);
+    say(rt, b": checked ");
+    say_number(rt, checked);
+    say(rt, b" to line ");
+    say_number(rt, line);
+    say(rt, b": ");
 }
 
-fn say_final(verdict: CertificateVerdict) {
+fn say_final(rt: &impl Print, verdict: CertificateVerdict) {
     let mut line = [0u8; 96];
     let length = report::write_line(verdict, &mut line);
-    say(&line[..length]);
+    say(rt, &line[..length]);
 }
 
-fn say_verdict(verdict: TurnVerdict) {
+fn say_verdict(rt: &impl Print, verdict: TurnVerdict) {
     match verdict {
-        TurnVerdict::Final(answer) => say_final(answer),
-        TurnVerdict::Unfinished => say(b"unfinished\n"),
+        TurnVerdict::Final(answer) => say_final(rt, answer),
+        TurnVerdict::Unfinished => say(rt, b"unfinished\n"),
     }
 }
 
 // The record after a turn, whose line is printed.
-fn after_turn(node: &[u8], cert: &[u8], progress: Progress, quota: usize) -> Progress
+fn after_turn(
+    rt: &impl Print,
+    node: &[u8],
+    cert: &[u8],
+    progress: Progress,
+    quota: usize,
+) -> Progress
     ensures { result.line ≡ (turn_of version2 node.now cert.now progress.line quota).line }
 {
     let t = turn(node, cert, progress, quota);
     let next = t.progress;
-    say_moved(quota, t.checked, next.line);
+    say_moved(rt, quota, t.checked, next.line);
     let verdict = t.verdict;
-    say_verdict(verdict);
+    say_verdict(rt, verdict);
     next
 }
 
 // The record after a turn for each quota of a turns file.
-fn run(node: &[u8], cert: &[u8], turns: &[u8]) -> Progress
+fn run(rt: &impl Print, node: &[u8], cert: &[u8], turns: &[u8]) -> Progress
     ensures { result.line ≡ line_after version2 node.now cert.now (first_line turns.now) (quotas_of turns.now) }
 {
     let line = unsigned_at(turns, 0) as usize;
-    say_begun(line);
+    say_begun(rt, line);
     let mut progress = Progress { line };
     let count = turns.len() / 8;
     let mut i = 1;
     while i < count {
-        progress = after_turn(node, cert, progress, unsigned_at(turns, i) as usize);
+        progress = after_turn(rt, node, cert, progress, unsigned_at(turns, i) as usize);
         i += 1;
     }
     progress
 }
 
-fn run_files(node_path: &[u8], cert_path: &[u8], turns_path: &[u8]) {
-    let mut node = io::large_buffer();
-    let mut cert = io::large_buffer();
-    let mut turns = io::large_buffer();
-    let n = read_file(node_path, &mut node);
-    let m = read_file(cert_path, &mut cert);
-    let k = read_file(turns_path, &mut turns);
-    run(&node[..n], &cert[..m], &turns[..k]);
+fn run_files(rt: &(impl Files + Print), node_path: &[u8], cert_path: &[u8], turns_path: &[u8]) {
+    let mut node = [0u8; 65536];
+    let mut cert = [0u8; 65536];
+    let mut turns = [0u8; 65536];
+    let n = read_file(rt, node_path, &mut node);
+    let m = read_file(rt, cert_path, &mut cert);
+    let k = read_file(rt, turns_path, &mut turns);
+    run(rt, &node[..n], &cert[..m], &turns[..k]);
 }
 
 // The three that arguments name.
-fn run_three(node_number: usize, cert_number: usize, turns_number: usize) {
-    let mut node_path = io::buffer();
-    let mut cert_path = io::buffer();
-    let mut turns_path = io::buffer();
-    let n = os::arg(node_number, &mut node_path);
-    let m = os::arg(cert_number, &mut cert_path);
-    let k = os::arg(turns_number, &mut turns_path);
-    say(&turns_path[..k]);
-    say(b": ");
-    run_files(&node_path[..n], &cert_path[..m], &turns_path[..k]);
+fn run_three(
+    rt: &(impl Env + Files + Print),
+    node_number: usize,
+    cert_number: usize,
+    turns_number: usize,
+) {
+    let mut node_path = [0u8; 4096];
+    let mut cert_path = [0u8; 4096];
+    let mut turns_path = [0u8; 4096];
+    let n = argument(rt, node_number, &mut node_path);
+    let m = argument(rt, cert_number, &mut cert_path);
+    let k = argument(rt, turns_number, &mut turns_path);
+    say(rt, &turns_path[..k]);
+    say(rt, b": ");
+    run_files(rt, &node_path[..n], &cert_path[..m], &turns_path[..k]);
 }
 
 // Argument 0 is the program's own name. A last node file and certificate without a turns file's name have no turns; a last name alone is
 // ignored.
-fn main() {
-    let threes = os::arg_count() / 3;
-    let mut three = 0;
-    while three < threes {
-        run_three(3 * three + 1, 3 * three + 2, 3 * three + 3);
-        three += 1;
+fn main(rt: HostRuntime) {
+    let threes = argument_count(&rt) / 3;
+    for three in 0..threes {
+        run_three(&rt, 3 * three + 1, 3 * three + 2, 3 * three + 3);
     }
 }

@@ -9,64 +9,65 @@ ghost use Rattle.look_up.specs.LookUp.{look_up_of};
 ghost use Rattle.look_ups.specs.Questions.{size_of, history_of, pairs_of, answer_of, values_in, values_from};
 
 use answers::{CertificateVerdict, LookUpVerdict, Place};
-use files::read_file;
+use files::{argument, argument_count, read_file};
 use integers::magnitude;
-use libc::STDOUT_FILENO;
 use look_up::look_up;
 use numbers::{read_numbers, unsigned_at};
+use std::rt::{Env, Files};
 
-fn say(text: &[u8]) {
-    io::write_all(STDOUT_FILENO, text);
+// A write that fails is passed over.
+fn say(rt: &impl Print, text: &[u8]) {
+    let _ = rt.write_all(text);
 }
 
-fn say_number(n: usize) {
-    io::print_decimal(STDOUT_FILENO, n as u64);
+fn say_number(rt: &impl Print, n: usize) {
+    let _ = rt.print(n);
 }
 
 // The count of instants and that of the inputs which were read.
-fn say_history(count: usize, size: usize) {
-    say(b"instants ");
-    say_number(count);
-    say(b" inputs ");
-    say_number(size);
-    say(b"\n");
+fn say_history(rt: &impl Print, count: usize, size: usize) {
+    say(rt, b"instants ");
+    say_number(rt, count);
+    say(rt, b" inputs ");
+    say_number(rt, size);
+    say(rt, b"\n");
 }
 
-fn say_question(stream: usize, instant: usize) {
-    say(b"stream ");
-    say_number(stream);
-    say(b" instant ");
-    say_number(instant);
-    say(b": ");
+fn say_question(rt: &impl Print, stream: usize, instant: usize) {
+    say(rt, b"stream ");
+    say_number(rt, stream);
+    say(rt, b" instant ");
+    say_number(rt, instant);
+    say(rt, b": ");
 }
 
-fn say_value(x: i64) {
-    say(b"value ");
+fn say_value(rt: &impl Print, x: i64) {
+    say(rt, b"value ");
     if x < 0 {
-        say(b"-");
+        say(rt, b"-");
     }
-    io::print_decimal(STDOUT_FILENO, magnitude(x));
-    say(b"\n");
+    let _ = rt.print(magnitude(x));
+    say(rt, b"\n");
 }
 
 // A refusal is said as that of a certificate is.
-fn say_refused(number: usize, place: Place) {
+fn say_refused(rt: &impl Print, number: usize, place: Place) {
     let mut line = [0u8; 96];
     let length = report::write_line(CertificateVerdict::Refused(number, place), &mut line);
-    say(&line[..length]);
+    say(rt, &line[..length]);
 }
 
 // Prints an answer. How many values it is, 1 or 0.
-fn say_answer(verdict: LookUpVerdict) -> usize
+fn say_answer(rt: &impl Print, verdict: LookUpVerdict) -> usize
     ensures { result ≡ values_in (look_up_answer verdict) }
 {
     match verdict {
         LookUpVerdict::Value(x) => {
-            say_value(x);
+            say_value(rt, x);
             1
         }
         LookUpVerdict::Refused(number, place) => {
-            say_refused(number, place);
+            say_refused(rt, number, place);
             0
         }
     }
@@ -97,15 +98,15 @@ fn looked_up(
 }
 
 // Asks question i of a questions file and prints its line. How many values its answer is.
-fn ask(node: &[u8], history: &[u8], questions: &[u8], i: usize) -> usize
+fn ask(rt: &impl Print, node: &[u8], history: &[u8], questions: &[u8], i: usize) -> usize
     requires { i < pairs_of questions.now }
     ensures { result ≡ values_in (answer_of node.now history.now questions.now i) }
 {
     let count = unsigned_at(questions, 0) as usize;
     let stream = unsigned_at(questions, 2 * i + 1) as usize;
     let instant = unsigned_at(questions, 2 * i + 2) as usize;
-    say_question(stream, instant);
-    say_answer(looked_up(node, history, count, stream, instant))
+    say_question(rt, stream, instant);
+    say_answer(rt, looked_up(node, history, count, stream, instant))
 }
 
 // How many questions a questions file has: two numbers each, after the first.
@@ -117,53 +118,67 @@ fn pairs_of(questions: &[u8]) -> usize
 }
 
 // Asks each question of a questions file. How many of the answers are values.
-fn ask_all(node: &[u8], history: &[u8], questions: &[u8]) -> usize
+fn ask_all(rt: &impl Print, node: &[u8], history: &[u8], questions: &[u8]) -> usize
     ensures { result ≡ values_from node.now history.now questions.now 0 (pairs_of questions.now) }
 {
     let pairs = pairs_of(questions);
     let mut values = 0;
     let mut i = 0;
     while i < pairs {
-        values += ask(node, history, questions, i);
+        values += ask(rt, node, history, questions, i);
         i += 1;
     }
     values
 }
 
-fn ask_files(node_path: &[u8], history_path: &[u8], questions_path: &[u8]) {
-    let mut node = io::large_buffer();
-    let mut history = io::large_buffer();
-    let mut questions = io::large_buffer();
-    let n = read_file(node_path, &mut node);
-    let m = read_file(history_path, &mut history);
-    let k = read_file(questions_path, &mut questions);
+fn ask_files(
+    rt: &(impl Files + Print),
+    node_path: &[u8],
+    history_path: &[u8],
+    questions_path: &[u8],
+) {
+    let mut node = [0u8; 65536];
+    let mut history = [0u8; 65536];
+    let mut questions = [0u8; 65536];
+    let n = read_file(rt, node_path, &mut node);
+    let m = read_file(rt, history_path, &mut history);
+    let k = read_file(rt, questions_path, &mut questions);
     say_history(
+        rt,
         unsigned_at(&questions[..k], 0) as usize,
         size_of(&history[..m]),
     );
-    ask_all(&node[..n], &history[..m], &questions[..k]);
+    ask_all(rt, &node[..n], &history[..m], &questions[..k]);
 }
 
 // The three that arguments name.
-fn ask_three(node_number: usize, history_number: usize, questions_number: usize) {
-    let mut node_path = io::buffer();
-    let mut history_path = io::buffer();
-    let mut questions_path = io::buffer();
-    let n = os::arg(node_number, &mut node_path);
-    let m = os::arg(history_number, &mut history_path);
-    let k = os::arg(questions_number, &mut questions_path);
-    say(&questions_path[..k]);
-    say(b": ");
-    ask_files(&node_path[..n], &history_path[..m], &questions_path[..k]);
+fn ask_three(
+    rt: &(impl Env + Files + Print),
+    node_number: usize,
+    history_number: usize,
+    questions_number: usize,
+) {
+    let mut node_path = [0u8; 4096];
+    let mut history_path = [0u8; 4096];
+    let mut questions_path = [0u8; 4096];
+    let n = argument(rt, node_number, &mut node_path);
+    let m = argument(rt, history_number, &mut history_path);
+    let k = argument(rt, questions_number, &mut questions_path);
+    say(rt, &questions_path[..k]);
+    say(rt, b": ");
+    ask_files(
+        rt,
+        &node_path[..n],
+        &history_path[..m],
+        &questions_path[..k],
+    );
 }
 
 // Argument 0 is the program's own name. A last node file and history file without a questions file's name have no question; a last name
 // alone is ignored.
-fn main() {
-    let threes = os::arg_count() / 3;
-    let mut three = 0;
-    while three < threes {
-        ask_three(3 * three + 1, 3 * three + 2, 3 * three + 3);
-        three += 1;
+fn main(rt: HostRuntime) {
+    let threes = argument_count(&rt) / 3;
+    for three in 0..threes {
+        ask_three(&rt, 3 * three + 1, 3 * three + 2, 3 * three + 3);
     }
 }

@@ -13,7 +13,7 @@ use report::{MARK, write_call};
 use session::{Session, Stepped, begun, committed, step, tried};
 
 // The session after a beginning, whose line is printed.
-pub fn begun_on(s: Session, file: &[u8]) -> Session
+pub fn begun_on(rt: &impl Print, s: Session, file: &[u8]) -> Session
     ensures { result ≡ begun_of file.now s }
 {
     let t = begun(s, file);
@@ -22,8 +22,8 @@ pub fn begun_on(s: Session, file: &[u8]) -> Session
         NodeVerdict::Accepted {
             streams,
             property: _,
-        } => say::begun(streams),
-        NodeVerdict::Refused(number, place) => say::refused(number, place),
+        } => say::begun(rt, streams),
+        NodeVerdict::Refused(number, place) => say::refused(rt, number, place),
     }
     t.session
 }
@@ -77,48 +77,48 @@ fn show_commit(s: Session, out: &mut [u8; 1440]) -> Shown
 }
 
 // The session after a trial or an old call, whose line is printed.
-fn called(s: Session, trying: bool, event: &[u8]) -> Session
+fn called(rt: &impl Print, s: Session, trying: bool, event: &[u8]) -> Session
     ensures { result ≡ after_event s (call_event trying (call_of event.now)) }
 {
     if trying {
-        say::text(b"trial: ");
+        say::text(rt, b"trial: ");
     }
     let mut line = [0u8; 1440];
     let t = show_call(s, trying, event, &mut line);
     let length = t.length;
-    say::text(&line[..length]);
+    say::text(rt, &line[..length]);
     t.session
 }
 
-fn committed_now(s: Session) -> Session
+fn committed_now(rt: &impl Print, s: Session) -> Session
     ensures { result ≡ after_event s commit }
 {
-    say::text(b"commit: ");
+    say::text(rt, b"commit: ");
     let mut line = [0u8; 1440];
     let t = show_commit(s, &mut line);
     let length = t.length;
-    say::text(&line[..length]);
+    say::text(rt, &line[..length]);
     t.session
 }
 
-fn begun_again(s: Session, event: &[u8]) -> Session
+fn begun_again(rt: &impl Print, s: Session, event: &[u8]) -> Session
     requires { 6 ≤ length event.now }
     ensures { result ≡ after_event s (beginning (file_of event.now)) }
 {
-    say::text(b"beginning: ");
-    begun_on(s, pass::file(event))
+    say::text(rt, b"beginning: ");
+    begun_on(rt, s, pass::file(event))
 }
 
 // The session after an event of a pass.
-pub fn after_event(s: Session, event: &[u8]) -> Session
+pub fn after_event(rt: &impl Print, s: Session, event: &[u8]) -> Session
     ensures { result ≡ after_event s (event_of event.now) }
 {
     let kind = pass::kind(event);
     if kind == 3 {
-        return begun_again(s, event);
+        return begun_again(rt, s, event);
     }
     if kind == 2 {
-        return committed_now(s);
+        return committed_now(rt, s);
     }
-    called(s, kind == 1, event)
+    called(rt, s, kind == 1, event)
 }

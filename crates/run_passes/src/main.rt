@@ -10,8 +10,9 @@ ghost use Rattle.run_passes.specs.Pass.{events_of};
 ghost use Rattle.run_passes.specs.Zeroed.{zeroed as zeroedRecord};
 
 use events::{after_event, begun_on};
-use files::read_file;
+use files::{argument, argument_count, read_file};
 use session::Session;
+use std::rt::{Env, Files};
 
 mod bytes;
 mod events;
@@ -33,14 +34,14 @@ fn zeroed() -> Session
 }
 
 // The session after all events of a pass, each made in turn on the session that the one before left.
-fn run(begun: Session, events: &[u8]) -> Session
+fn run(rt: &impl Print, begun: Session, events: &[u8]) -> Session
     ensures { result ≡ after_events begun (events_of events.now) }
 {
     let mut s = begun;
     let mut left = events;
     let mut size = pass::first_size(left);
     while 0 < size {
-        s = after_event(s, &left[..size]);
+        s = after_event(rt, s, &left[..size]);
         left = &left[size..];
         size = pass::first_size(left);
     }
@@ -48,37 +49,35 @@ fn run(begun: Session, events: &[u8]) -> Session
 }
 
 // A session begun on a node, and then all events of a pass.
-fn run_pass(node: &[u8], events: &[u8]) -> Session
+fn run_pass(rt: &impl Print, node: &[u8], events: &[u8]) -> Session
     ensures { result ≡ after_events (begun_of node.now zeroedRecord) (events_of events.now) }
 {
-    run(begun_on(zeroed(), node), events)
+    run(rt, begun_on(rt, zeroed(), node), events)
 }
 
-fn run_files(node_path: &[u8], pass_path: &[u8]) {
-    let mut node = io::large_buffer();
-    let mut events = io::large_buffer();
-    let n = read_file(node_path, &mut node);
-    let m = read_file(pass_path, &mut events);
-    run_pass(&node[..n], &events[..m]);
+fn run_files(rt: &(impl Files + Print), node_path: &[u8], pass_path: &[u8]) {
+    let mut node = [0u8; 65536];
+    let mut events = [0u8; 65536];
+    let n = read_file(rt, node_path, &mut node);
+    let m = read_file(rt, pass_path, &mut events);
+    run_pass(rt, &node[..n], &events[..m]);
 }
 
 // The pair that two arguments name.
-fn run_pair(node_number: usize, pass_number: usize) {
-    let mut node_path = io::buffer();
-    let mut pass_path = io::buffer();
-    let n = os::arg(node_number, &mut node_path);
-    let m = os::arg(pass_number, &mut pass_path);
-    say::text(&pass_path[..m]);
-    say::text(b": ");
-    run_files(&node_path[..n], &pass_path[..m]);
+fn run_pair(rt: &(impl Env + Files + Print), node_number: usize, pass_number: usize) {
+    let mut node_path = [0u8; 4096];
+    let mut pass_path = [0u8; 4096];
+    let n = argument(rt, node_number, &mut node_path);
+    let m = argument(rt, pass_number, &mut pass_path);
+    say::text(rt, &pass_path[..m]);
+    say::text(rt, b": ");
+    run_files(rt, &node_path[..n], &pass_path[..m]);
 }
 
 // Argument 0 is the program's own name. A last node file without a pass file's name has a pass without events.
-fn main() {
-    let pairs = os::arg_count() / 2;
-    let mut pair = 0;
-    while pair < pairs {
-        run_pair(2 * pair + 1, 2 * pair + 2);
-        pair += 1;
+fn main(rt: HostRuntime) {
+    let pairs = argument_count(&rt) / 2;
+    for pair in 0..pairs {
+        run_pair(&rt, 2 * pair + 1, 2 * pair + 2);
     }
 }

@@ -1,20 +1,20 @@
 // Lines on standard output.
 use answers::{CertificateVerdict, Place};
-use libc::STDOUT_FILENO;
 
-pub fn text(bytes: &[u8]) {
-    io::write_all(STDOUT_FILENO, bytes);
+// A write that fails is passed over.
+pub fn text(rt: &impl Print, bytes: &[u8]) {
+    let _ = rt.write_all(bytes);
 }
 
-pub fn begun(streams: usize) {
-    text(b"begun streams ");
-    io::print_decimal(STDOUT_FILENO, streams as u64);
-    text(b"\n");
+pub fn begun(rt: &impl Print, streams: usize) {
+    text(rt, b"begun streams ");
+    let _ = rt.print(streams);
+    text(rt, b"\n");
 }
 
 // A refusal is said as that of a certificate is.
-pub fn refused(number: usize, place: Place) {
+pub fn refused(rt: &impl Print, number: usize, place: Place) {
     let mut line = [0u8; 96];
     let length = report::write_line(CertificateVerdict::Refused(number, place), &mut line);
-    text(&line[..length]);
+    text(rt, &line[..length]);
 }
