@@ -12,6 +12,7 @@ pub mod Notes
 pub mod Outcomes
 pub mod Placing
 pub mod RecordOrder
+pub mod RecordOutcomes
 pub mod Records
 pub mod Searching
 pub mod Starting

@@ -1,11 +1,11 @@
 -- A cut is a line of kind 4 with the multiplier r on its last literal, and r times the last constraint's bound is at most the sum's:
 -- so that an accepted one is satisfied by every window, by kind 4's argument.
 -- Assumes nothing.
-use mathlib.Core.Path.{◌≡◌, refl, sym, ◌∙◌, ap, ap₂, fun_ext}
+use mathlib.Core.Path.{◌≡◌, refl, sym, ◌∙◌, ap, fun_ext}
 use mathlib.Core.Logic.{◌↔◌}
 use mathlib.Core.List.{◌++◌}
 use mathlib.Core.Bool.{Bool, true, false, cond, not, ◌&&◌}
-use Prim.Native.Nat.{ℕ, zero, suc, ◌-◌, ◌≤◌, ◌<◌}
+use Prim.Native.Nat.{ℕ, zero, suc, ◌≤◌, ◌<◌}
 use native.Mathlib.Nat.{le_refl}
 use native.Mathlib.Omega.{arith}
 use borrow.Author.Tests.{leb-true, le-leb, eqb-true, eqb-false, ne_eqb, eq-eqb, not-true}
@@ -18,7 +18,7 @@ use Rattle.answers.specs.Checks.{every}
 use Rattle.answers.proofs.Every.{every_all, every_of}
 use Rattle.answers.proofs.Tests.{both_true, same_test}
 use Rattle.constraints.specs.Layout.{Constraint, Line, used_in, listed_in}
-use Rattle.constraints.specs.Linear.{Bounded, Form, coefficient, scaled, negated, same_z}
+use Rattle.constraints.specs.Linear.{Bounded, coefficient, scaled, negated, same_z}
 use Rattle.constraints.proofs.Totals.{coefficient_append, coefficient_scaled}
 use Rattle.literals.specs.Literals.{atom_of, is_negated, is_constraint, constraint_number}
 use Rattle.rules.specs.Arithmetic.{is_multiplier, opposite_says, sum_of, arithmetic_ok}

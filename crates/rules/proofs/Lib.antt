@@ -22,6 +22,7 @@ pub mod LiteralMatches
 pub mod Literals
 pub mod Matches
 pub mod OtherVersions
+pub mod OneCall
 pub mod Outcomes
 pub mod Parts
 pub mod PropertyLines
