@@ -21,7 +21,7 @@ use Rattle.look_up.specs.declared.visits.Visit.{Visit}
 use Rattle.look_up.specs.Visits.{first_visit, second_visit}
 use Rattle.look_up.specs.Looking.{over, look_rank, visit_rank, Ready}
 use Rattle.look_up.proofs.Combining.{over_same}
-use Rattle.look_up.proofs.Steps.{in_table, equation_is, followed_there, missed_one, missed_two, missed, stored, ready_one, ready_two, there_ready}
+use Rattle.look_up.proofs.Steps.{in_table, equation_is, followed_there, hit, missed_one, missed_two, missed, stored, ready_one, ready_two, there_ready}
 use Rattle.look_up.proofs.table.+follow_look.Goals as goal
 
 -- ---- what is visited, and the value, of the equation that was read
@@ -47,6 +47,17 @@ pub follow-look-requires : goal.follow-look-requires
 follow-look-requires t c =
     let r = there_ready _ _ _ _ _ c.in-At.is c.requires in
     (subst (λ (k : ℕ). look_rank c.args.file.now c.in-At.t c.in-At.s < k) c.decreases r.0, r.1)
+
+-- src/table.rt:27:17
+pub follow-returns-then-known-at-eq1 : goal.follow-returns-then-known-at-eq1
+follow-returns-then-known-at-eq1 t c =
+    let ready = (there_ready _ _ _ _ _ c.in-At.is c.requires).1 in
+    let f : SFits w64 (get_or c.args.values.now (64 * c.in-At.t + c.in-At.s) (pos 0)) = search rules in
+    rw (to_z-of_z f) (followed_there _ _ _ _ _ _ _ _ _ c.in-At.is (hit _ _ _ _ ready _ _ c.if-known-at-eq1.true))
+
+-- src/table.rt:27:36
+pub follow-bounds-values-at : goal.follow-bounds-values-at
+follow-bounds-values-at t c = omega (arith, in_table _ _ _ _ (there_ready _ _ _ _ _ c.in-At.is c.requires).1)
 
 -- src/table.rt:29:39
 pub follow-bounds-values-at-then-look : goal.follow-bounds-values-at-then-look
