@@ -1,7 +1,9 @@
 pub mod Entries
 pub mod Every
 pub mod Prefix
+pub mod Ranges
 pub mod Checks
 pub mod Lowest
 pub mod Tests
+pub mod Finds
 pub mod Verdicts

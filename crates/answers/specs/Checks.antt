@@ -1,10 +1,8 @@
 -- "Checks run down the table, each over all its records first .. The first failure is given": how an answer is put
 -- together from tests in a row.
-use Rattle.std.specs.Prelude.{◌≡◌, ℕ, zero, suc, ◌<◌, Bool, true, false, ◌&&◌}
+use Rattle.std.specs.Prelude.{◌≡◌, ℕ, zero, suc, ◌<◌, Bool, true, false, ◌&&◌, Err, None, Ok, Option, Some}
 use Rattle.answers.specs.declared.Place.{Place}
-use Rattle.answers.specs.declared.Found.{Found}
-use Rattle.answers.specs.declared.Found.TheVariants.{At, Nothing}
-use Rattle.answers.specs.Answer.{Answer, accepted, refused}
+use Rattle.answers.specs.Answer.{Answer, refused}
 
 -- one test: where it fails the answer is this refusal, else what the checks after it give
 abbrev pub check : {A : Type 0} → Bool → (number : ℕ) → Place → Answer A → Answer A
@@ -13,8 +11,8 @@ check false number place rest = refused number place
 
 -- where the checks before them pass, the answer is that of those after
 abbrev pub and_then : {A B : Type 0} → Answer A → Answer B → Answer B
-and_then (accepted a) rest = rest
-and_then (refused number place) rest = refused number place
+and_then (Ok a) rest = rest
+and_then (Err r) rest = Err r
 
 -- a test holds of each of the first n
 unfoldable pub every : (ℕ → Bool) → (n : ℕ) → Bool
@@ -22,13 +20,13 @@ every ok zero = true
 every ok (suc n) = every ok n && ok n
 
 -- the lowest of the first n at which the test fails
-abbrev pub or_else : Found → Bool → ℕ → Found
-or_else (At k) ok i = At k
-or_else Nothing true i = Nothing
-or_else Nothing false i = At i
+abbrev pub or_else : Option ℕ → Bool → ℕ → Option ℕ
+or_else (Some k) ok i = Some k
+or_else None true i = None
+or_else None false i = Some i
 
-unfoldable pub lowest : (ℕ → Bool) → (n : ℕ) → Found
-lowest ok zero = Nothing
+unfoldable pub lowest : (ℕ → Bool) → (n : ℕ) → Option ℕ
+lowest ok zero = None
 lowest ok (suc n) = or_else (lowest ok n) (ok n) n
 
 -- i is the lowest of the first n at which the test fails
@@ -38,6 +36,6 @@ pub record Lowest (ok : ℕ → Bool) (n i : ℕ) : Type 0 where
   pub before : (k : ℕ) → k < i → ok k ≡ true
 
 -- one test over all records: refused at the lowest at fault
-abbrev pub check_all : {A : Type 0} → Found → (number : ℕ) → (ℕ → Place) → Answer A → Answer A
-check_all (At i) number place rest = refused number (place i)
-check_all Nothing number place rest = rest
+abbrev pub check_all : {A : Type 0} → Option ℕ → (number : ℕ) → (ℕ → Place) → Answer A → Answer A
+check_all (Some i) number place rest = refused number (place i)
+check_all None number place rest = rest

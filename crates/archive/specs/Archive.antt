@@ -2,7 +2,8 @@
 -- the theorem behind them remain".
 use Rattle.std.specs.Prelude.{◌≡◌, ℕ, List}
 use Rattle.answers.specs.declared.Place.TheVariants.{File}
-use Rattle.answers.specs.Answer.{accepted, refused, CertificateValues}
+use Rattle.answers.specs.Answer.{accepted, refused}
+use Rattle.answers.specs.declared.CertificateValues.{CertificateValues}
 use Rattle.rules.specs.Verdict.{verdict_of, archived_verdict}
 use Rattle.rules.specs.Versions.{version1, version2}
 use Rattle.soundness.specs.Demands.{DemandFor}

@@ -153,3 +153,6 @@ module _ (constraints : ℕ → Constraint) (line : Line) where
 
   pub length_sums : (n : ℕ) → length (sums_of constraints line n) ≡ 576
   length_sums n = length_add_form (replicate 576 (pos 0)) (sum_of constraints line n).form ∙ length-replicate 576 (pos 0)
+
+  pub sums_long : (sums : List ℤ) (n : ℕ) → sums ≡ sums_of constraints line n → length sums ≡ 576
+  sums_long sums n e = rw e (length_sums n)

@@ -1,6 +1,6 @@
 -- A cut's sums are those of kind 4 with the multiplier r on its last literal.
 -- Assumes nothing.
-use mathlib.Core.Path.{◌≡◌, refl, sym, ◌∙◌, ap₂}
+use mathlib.Core.Path.{◌≡◌, refl, sym, ◌∙◌, ap, ap₂}
 use mathlib.Core.List.{List}
 use mathlib.Core.Bool.{Bool, true, false, ◌&&◌, and-true}
 use Prim.Native.Nat.{ℕ, ◌+◌, ◌-◌, ◌≤◌, ◌<◌}
@@ -11,7 +11,8 @@ use lib.IntN.{ℤ, pos, neg_ℤ}
 use lib.ListN.{replicate}
 use Rattle.answers.specs.Checks.{every}
 use Rattle.answers.proofs.Every.{every_of}
-use Rattle.constraints.specs.Layout.{Constraint, Line, used_in, listed_in, line_head_at, constraint_at, line_at, literal_at, multiplier_at, constraints_from}
+use Rattle.constraints.specs.declared.layout.LineHead.{LineHead}
+use Rattle.constraints.specs.Layout.{Constraint, Line, used_in, listed_in, line_head_at, constraint_at, line_at, literal_at, multiplier_at, constraints_from, line_with}
 use Rattle.constraints.specs.Linear.{Bounded, scaled, written}
 use Rattle.constraints.proofs.Blocks.{listed_is, listed_within}
 use Rattle.literals.specs.Literals.{atom_of, is_constraint}
@@ -20,7 +21,7 @@ use Rattle.rules.specs.Cuts.{others, last_ok, other_ok, is_cut, rounded_ok, cut_
 use Rattle.rules.proofs.Cuts.{CutFacts, cut_facts, others_sum_is, last_weight, zeros_test, all_on_is, same_count, accepted}
 use Rattle.rules.proofs.ShapeFacts.{multiplier_small}
 use Rattle.arithmetic.specs.Sums.{add_form, sums_of, sums_after_cut, place_of, factor_of, terms_zero}
-use Rattle.arithmetic.specs.Checkable.{Usable, Cutting}
+use Rattle.arithmetic.specs.Checkable.{Checkable, Usable, Cutting}
 use Rattle.arithmetic.proofs.Adding.{on, sums_more}
 use Rattle.arithmetic.proofs.Deciding.{usable, after_all_is, passed_clear}
 use Rattle.arithmetic.proofs.Named.{named_suffice}
@@ -136,3 +137,21 @@ module _ (constraints : ℕ → Constraint) (line : Line) where
       rw told.cut
       (after_all_is constraints (as_arithmetic line) (listed_in line) (sym (same_count line)) all
       ∙ passed_clear constraints (as_arithmetic line) told.arithmetic)
+
+-- ---- a line whose head was read, and which was tested
+
+module _ (s : List ℕ) (start at : ℕ) (h : LineHead) (given : Checkable s start at × (h ≡ line_head_at s at)) (passed : Bool) (e : passed ≡ is_cut (line_with s at h)) where
+  pub test_is : passed ≡ is_cut (line_at s at)
+  test_is = e ∙ ap (λ (h : LineHead). is_cut (line_with s at h)) given.1
+
+  module _ (yes : passed ≡ true) where
+    pub cutting : Cutting s start at (h.count - 1) h.r
+    cutting = record {
+      checkable = given.0;
+      cut = sym test_is ∙ yes;
+      last_is = ap (λ (h : LineHead). h.count - 1) given.1 ∙ ap (λ (n : ℕ). n - 1) (sym (listed_is (line_at s at) given.0.few));
+      r_is = ap (λ (h : LineHead). h.r) given.1;
+    }
+
+    pub counted : h.count ≡ h.count - 1 + 1
+    counted = omega (arith, ap (λ (h : LineHead). h.count) given.1, listed s start at _ _ cutting, listed_within (line_at s at))

@@ -10,7 +10,7 @@ use lib.IntN.{ℤ, pos, neg_ℤ}
 use lib.ListN.{replicate}
 use lib.Signed.{le_z}
 use Rattle.answers.specs.Checks.{every}
-use Rattle.answers.proofs.Every.{every_of}
+use Rattle.answers.proofs.Every.{every_all, every_of}
 use Rattle.constraints.specs.Layout.{Constraint, Line, used_in, listed_in, line_head_at, literal_at, multiplier_at}
 use Rattle.literals.specs.Literals.{atom_of, is_constraint}
 use Rattle.rules.specs.Limited.{Named}
@@ -83,3 +83,9 @@ usable s start at n good e j l on small =
       constraint = on;
       summable = good.constraints j k on;
     }
+
+-- .. and so is each of the first n
+pub all_usable : (s : List ℕ) (start at n : ℕ) → Checkable s start at × (n ≡ (line_head_at s at).count)
+    → every (λ j. is_constraint (atom_of (literal_at s at j))) n ≡ true → ((j : ℕ) → j < n → multiplier_at s at j ≤ 1000000)
+    → (j : ℕ) → j < n → Usable s start at j
+all_usable s start at n good on small j l = usable s start at n good.0 good.1 j l (every_all _ n on j l) (small j l)

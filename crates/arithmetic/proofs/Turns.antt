@@ -12,6 +12,7 @@ use mir.Val.{SFits}
 use mir.Facts.{to_z-of_z}
 use Rattle.integers.proofs.Abs.{abs_fits, bound_add, bound_mul}
 use Rattle.integers.proofs.Reading.{rd}
+use Rattle.integers.proofs.Ring.{+ℤ_comm}
 use Rattle.integers.proofs.Small.{small_sum_fits, small_sum}
 use Rattle.constraints.specs.declared.layout.ConstraintHead.{ConstraintHead}
 use Rattle.constraints.specs.Layout.{Constraint, Line, used_in, constraint_at, head_at, term_at, line_at, literal_at, multiplier_at, constraints_from}
@@ -118,13 +119,13 @@ module _ (s : List ℕ) (start at : ℕ) where
     v_read : rd w64 v ≡ v
     v_read = to_z-of_z (abs_fits w64 v (omega (arith, v_small)))
 
-    pub bound_fits : SFits w64 (rd w64 v +ℤ bound)
+    pub bound_fits : SFits w64 (bound +ℤ rd w64 v)
     bound_fits =
-        let sum = bound_add (1000000 * 200000000000) 2400000000000000000 v bound v_small bound_small in
-        rw v_read (abs_fits w64 (v +ℤ bound) (omega (arith, sum)))
+        let sum = bound_add 2400000000000000000 (1000000 * 200000000000) bound v bound_small v_small in
+        rw v_read (abs_fits w64 (bound +ℤ v) (omega (arith, sum)))
 
-    pub bound_turn : rd w64 (rd w64 v +ℤ bound) ≡ (sum_of constraints line (n + 1)).bound
-    bound_turn = to_z-of_z bound_fits ∙ rw (v_read, e, f) (sym (bound_more constraints line n))
+    pub bound_turn : rd w64 (bound +ℤ rd w64 v) ≡ (sum_of constraints line (n + 1)).bound
+    bound_turn = to_z-of_z bound_fits ∙ rw (v_read, +ℤ_comm bound v, e, f) (sym (bound_more constraints line n))
 
   -- what `add_terms` asks of the sums so far
   pub sums_within : (n : ℕ) → n ≤ 12 → ((j : ℕ) → j < n → Usable s start at j)

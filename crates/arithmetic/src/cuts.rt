@@ -28,16 +28,10 @@ fn are_others(file: &[u8], at: usize, count: usize) -> bool
     requires { (at + 80 ≤ length file.now) × (count ≤ 12) }
     ensures { result ≡ every (λ j. other_ok (literal_at file.now at j) (multiplier_at file.now at j)) count }
 {
-    let mut j = 0;
-    while j < count {
-        let literal = literal_at(file, at, j);
-        let multiplier = multiplier_at(file, at, j);
-        if !((576 <= literal.atom()) & is_multiplier(multiplier)) {
-            return false;
-        }
-        j += 1;
-    }
-    true
+    (0..count).all(|j| {
+        let is_constraint = 576 <= literal_at(file, at, j).atom();
+        is_constraint & is_multiplier(multiplier_at(file, at, j))
+    })
 }
 
 // What the line at an offset says of a cut without a look at its constraints.

@@ -15,15 +15,7 @@ pub fn are_constraints(file: &[u8], at: usize, count: usize) -> bool
     requires { (at + 80 ≤ length file.now) × (count ≤ 12) }
     ensures { result ≡ every (λ j. is_constraint (atom_of (literal_at file.now at j))) count }
 {
-    let mut j = 0;
-    while j < count {
-        let literal = literal_at(file, at, j);
-        if literal.atom() < 576 {
-            return false;
-        }
-        j += 1;
-    }
-    true
+    (0..count).all(|j| 576 <= literal_at(file, at, j).atom())
 }
 
 // The opposites of the first `count` literals, times their multipliers, added up: at each variable.
@@ -33,12 +25,10 @@ pub fn add_literals(sums: &mut [i64], file: &[u8], start: usize, at: usize, coun
     requires sums_value { sums.old ≡ replicate 576 (pos 0) }
     ensures { sums.new ≡ sums_of (constraints_from file.now start) (line_at file.now at) count }
 {
-    let mut j = 0;
-    while j < count {
+    for j in 0..count {
         let place = place_of(file, start, at, j);
         let factor = factor_at(file, at, j);
         add_terms(sums, file, place, factor);
-        j += 1;
     }
 }
 
@@ -49,10 +39,8 @@ pub fn bound_of(file: &[u8], start: usize, at: usize, count: usize) -> i64
     ensures { result ≡ (sum_of (constraints_from file.now start) (line_at file.now at) count).bound }
 {
     let mut bound: i64 = 0;
-    let mut j = 0;
-    while j < count {
-        bound = bound_at(file, start, at, j) + bound;
-        j += 1;
+    for j in 0..count {
+        bound += bound_at(file, start, at, j);
     }
     bound
 }
@@ -63,13 +51,5 @@ pub fn are_zero(sums: &[i64], file: &[u8], start: usize, at: usize, count: usize
     requires by_index { (j : ℕ) → j < count → Usable file.now start at j }
     ensures { result ≡ every (λ j. terms_zero sums.now (constraint_at file.now (place_of file.now start at j))) count }
 {
-    let mut j = 0;
-    while j < count {
-        let place = place_of(file, start, at, j);
-        if !are_terms_zero(sums, file, place) {
-            return false;
-        }
-        j += 1;
-    }
-    true
+    (0..count).all(|j| are_terms_zero(sums, file, place_of(file, start, at, j)))
 }

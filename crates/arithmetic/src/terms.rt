@@ -2,7 +2,7 @@
 ghost use Rattle.std.specs.Prelude.{ℕ, ◌+◌, ◌<◌, ◌≤◌, ◌≡◌, pos, nat_abs, ◌*ℤ◌, length, get_or};
 ghost use Rattle.constraints.specs.Layout.{head_at, term_at, constraint_at, used_in, literal_at, multiplier_at};
 ghost use Rattle.constraints.specs.Linear.{variable, scaled, written};
-ghost use Rattle.arithmetic.specs.Sums.{add_form, place_of, factor_of, opposite_bound, terms_zero};
+ghost use Rattle.arithmetic.specs.Sums.{add_form, place_of, factor_of, opposite_bound, zero_at, terms_zero};
 ghost use Rattle.arithmetic.specs.Checkable.{Summable, Usable};
 
 use constraints::{block_at, constraint_head, literal_at, multiplier_at, term_at, var};
@@ -67,16 +67,23 @@ pub fn add_terms(sums: &mut [i64], file: &[u8], at: usize, factor: i64)
 {
     let head = constraint_head(file, at);
     let count = head.count as usize;
-    let mut j = 0;
-    while j < count {
+    for j in 0..count {
         let x = variable_at(file, at, j);
         let weighted = weighted_at(file, at, j, factor);
-        sums[x] = sums[x] + weighted;
-        j += 1;
+        sums[x] += weighted;
     }
 }
 
-// The sum at the variable of each term of the constraint at an offset is 0.
+// The sum at the variable of term j of the constraint at an offset is 0.
+fn is_zero_at(sums: &[i64], file: &[u8], at: usize, j: usize) -> bool
+    requires summable { Summable file.now at × (j < used_in (constraint_at file.now at)) }
+    requires sums_len { length sums.now ≡ 576 }
+    ensures { result ≡ zero_at sums.now (constraint_at file.now at) j }
+{
+    sums[variable_at(file, at, j)] == 0
+}
+
+// .. and of each of its terms.
 pub fn are_terms_zero(sums: &[i64], file: &[u8], at: usize) -> bool
     requires summable { Summable file.now at }
     requires sums_len { length sums.now ≡ 576 }
@@ -84,15 +91,7 @@ pub fn are_terms_zero(sums: &[i64], file: &[u8], at: usize) -> bool
 {
     let head = constraint_head(file, at);
     let count = head.count as usize;
-    let mut j = 0;
-    while j < count {
-        let sum = sums[variable_at(file, at, j)];
-        if !((sum <= 0) & (0 <= sum)) {
-            return false;
-        }
-        j += 1;
-    }
-    true
+    (0..count).all(|j| is_zero_at(sums, file, at, j))
 }
 
 fn opposite_bound(literal: Literal, bound: i64) -> i64

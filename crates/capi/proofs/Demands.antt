@@ -6,7 +6,8 @@ use mathlib.Core.Bool.{true, false≢true}
 use Prim.Native.Nat.{ℕ}
 use native.Mathlib.Omega.{arith}
 use lib.IntN.{ℤ}
-use Rattle.answers.specs.Answer.{Answer, accepted, refused, is_accepted, CertificateValues, TurnAnswer, final, unfinished}
+use Rattle.answers.specs.Answer.{Answer, accepted, is_accepted, TurnAnswer, final, unfinished}
+use Rattle.answers.specs.declared.CertificateValues.{CertificateValues}
 use Rattle.node.specs.Equations.{equation_at}
 use Rattle.node.specs.Verdict.{verdict_of as node_verdict}
 use Rattle.rules.specs.Turns.{begun_line, turn_of, line_after}
@@ -28,10 +29,11 @@ use Rattle.soundness.proofs.Demands.{demand_3, turns_demand_3}
 use Rattle.capi.specs.Answers.{told_node, told_certificate, told_answer, told_turn, told_look_up}
 use Rattle.capi.specs.Theorems.{ExportedSessionsExact, ExportedDemand3, ExportedTurnsDemand3, ExportedSessionsInside, ExportedLookUps}
 use Rattle.capi.proofs.Zero.{zero}
+use Rattle.std.specs.Prelude.{Err, Ok}
 
 accepted_with : {A : Type 0} (a : Answer A) → is_accepted a ≡ true → (v : A) × (a ≡ accepted v)
-accepted_with (accepted v) e = (v, refl)
-accepted_with (refused number place) e = absurd (false≢true e)
+accepted_with (Ok v) e = (v, refl)
+accepted_with (Err r) e = absurd (false≢true e)
 
 pub exported_sessions_exact : ExportedSessionsExact
 exported_sessions_exact file told =

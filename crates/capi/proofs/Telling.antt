@@ -8,11 +8,14 @@ use lib.IntN.{ℤ}
 use lib.ListN.{get_or}
 use Rattle.answers.specs.declared.Place.{Place}
 use Rattle.answers.specs.declared.Place.TheVariants.{File, Record, Constraint, Line, Base, Step}
-use Rattle.answers.specs.Answer.{Answer, accepted, refused, NodeValues, CertificateValues, TurnAnswer, final, unfinished}
+use Rattle.answers.specs.Answer.{Answer, accepted, refused, TurnAnswer, final, unfinished}
+use Rattle.answers.specs.declared.NodeValues.{NodeValues}
+use Rattle.answers.specs.declared.CertificateValues.{CertificateValues}
 use Rattle.capi.specs.declared.told.Told.{Told}
 use Rattle.capi.specs.declared.look_ups.ToldLookUp.{ToldLookUp}
 use Rattle.capi.specs.Answers.{place_number, place_index, told_accepted, told_of, told_refused, told_node, told_certificate, told_plain, told_unfinished, told_answer, told_look_up}
 use Rattle.capi.specs.Theorems.{Tells, NumbersTell}
+use Rattle.std.specs.Prelude.{Err, Ok}
 
 -- the place that a number and an index tell
 place_at : (number index : ℕ) → Place
@@ -44,16 +47,16 @@ module _ {A : Type 0} (values : A → Told) (no_place : (a : A) → (values a).p
   apart a n p e = place_is_some p (sym (ap (λ (t : Told). t.place) e) ∙ no_place a)
 
   tells : Tells (told_of values)
-  tells (accepted a) (accepted b) e = ap accepted (same a b e)
-  tells (accepted a) (refused n p) e = absurd (apart a n p e)
-  tells (refused n p) (accepted b) e = absurd (apart b n p (sym e))
-  tells (refused n p) (refused m q) e = let s = refusal_tells n m p q e in ap₂ refused s.0 s.1
+  tells (Ok a) (Ok b) e = ap accepted (same a b e)
+  tells (Ok a) (Err r) e = absurd (apart a r.number r.place e)
+  tells (Err r) (Ok b) e = absurd (apart b r.number r.place (sym e))
+  tells (Err r) (Err s) e = let s = refusal_tells r.number s.number r.place s.place e in ap₂ refused s.0 s.1
 
 -- a final answer is accepted, and 0, or has a place; 256 has none
 apart_unfinished : (a : Answer CertificateValues) → told_certificate a ≡ told_unfinished → ⊥
 unfolding told_certificate
-apart_unfinished (accepted v) e = let z : ◌≡◌ {A = ℕ} 0 256 = ap (λ (t : Told). t.number) e in omega arith
-apart_unfinished (refused n p) e = place_is_some p (ap (λ (t : Told). t.place) e)
+apart_unfinished (Ok v) e = let z : ◌≡◌ {A = ℕ} 0 256 = ap (λ (t : Told). t.number) e in omega arith
+apart_unfinished (Err r) e = place_is_some r.place (ap (λ (t : Told). t.place) e)
 
 turn_tells : Tells told_certificate → (a b : TurnAnswer) → told_answer a ≡ told_answer b → a ≡ b
 unfolding told_answer
@@ -70,10 +73,10 @@ certificate_tells =
 -- the value beside the answer tells an accepted look_up's
 look_up_tells : (a b : Answer ℤ) → told_look_up a ≡ told_look_up b → a ≡ b
 unfolding told_look_up
-look_up_tells (accepted x) (accepted y) e = ap accepted (ap (λ (t : ToldLookUp). t.value) e)
-look_up_tells (accepted x) (refused n p) e = absurd (place_is_some p (sym (ap (λ (t : ToldLookUp). t.answer.place) e)))
-look_up_tells (refused n p) (accepted y) e = absurd (place_is_some p (ap (λ (t : ToldLookUp). t.answer.place) e))
-look_up_tells (refused n p) (refused m q) e = let s = refusal_tells n m p q (ap (λ (t : ToldLookUp). t.answer) e) in ap₂ refused s.0 s.1
+look_up_tells (Ok x) (Ok y) e = ap accepted (ap (λ (t : ToldLookUp). t.value) e)
+look_up_tells (Ok x) (Err r) e = absurd (place_is_some r.place (sym (ap (λ (t : ToldLookUp). t.answer.place) e)))
+look_up_tells (Err r) (Ok y) e = absurd (place_is_some r.place (ap (λ (t : ToldLookUp). t.answer.place) e))
+look_up_tells (Err r) (Err s) e = let s = refusal_tells r.number s.number r.place s.place (ap (λ (t : ToldLookUp). t.answer) e) in ap₂ refused s.0 s.1
 
 pub numbers_tell : NumbersTell
 unfolding told_node told_plain

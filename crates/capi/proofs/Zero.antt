@@ -9,11 +9,11 @@ use borrow.Author.Tests.{eqb-false}
 use lib.Dec.{eqb}
 use lib.IntN.{ℤ}
 use lib.ListN.{length}
-use Rattle.answers.specs.declared.Found.{Found}
-use Rattle.answers.specs.declared.Found.TheVariants.{At, Nothing}
 use Rattle.answers.specs.declared.Place.{Place}
 use Rattle.answers.specs.declared.Place.TheVariants.{File, Record as AtRecord, Constraint as AtConstraint, Line as AtLine, Base, Step}
-use Rattle.answers.specs.Answer.{Answer, accepted, refused, is_accepted, NodeValues, CertificateValues, TurnAnswer, final, unfinished}
+use Rattle.answers.specs.Answer.{Answer, accepted, refused, is_accepted, TurnAnswer, final, unfinished}
+use Rattle.answers.specs.declared.NodeValues.{NodeValues}
+use Rattle.answers.specs.declared.CertificateValues.{CertificateValues}
 use Rattle.answers.specs.Checks.{check, check_all, every, lowest, and_then}
 use Rattle.answers.proofs.Lowest.{first}
 use Rattle.node.specs.declared.reading.RecordRule.TheVariants.{Shape, Operands, Types}
@@ -43,11 +43,12 @@ use Rattle.rules.proofs.Turns.{moved_answer, by_turn}
 use Rattle.capi.specs.declared.told.Told.{Told}
 use Rattle.capi.specs.Answers.{told_accepted, told_of, told_node, told_certificate, told_plain, told_answer, told_turn, told_look_up}
 use Rattle.capi.specs.Theorems.{ZeroAccepts}
+use Rattle.std.specs.Prelude.{Err, None, Ok, Option, Some}
 
 -- a refusal's number is above 0
 unfoldable Numbered : {A : Type 0} → Answer A → Type 0
-Numbered (accepted a) = Unit {0}
-Numbered (refused number place) = 0 < number
+Numbered (Ok a) = Unit {0}
+Numbered (Err r) = 0 < r.number
 
 above : (A : Type 0) (number : ℕ) (place : Place) → 0 < number → Numbered {A = A} (refused number place)
 unfolding Numbered
@@ -70,9 +71,9 @@ module _ {A : Type 0} where
   tested true number place rest l n = n
   tested false number place rest l n = above A number place l
 
-  tested_all : (found : Found) (number : ℕ) (place : ℕ → Place) (rest : Answer A) → 0 < number → Numbered rest → Numbered (check_all found number place rest)
-  tested_all (At i) number place rest l n = above A number (place i) l
-  tested_all Nothing number place rest l n = n
+  tested_all : (found : Option ℕ) (number : ℕ) (place : ℕ → Place) (rest : Answer A) → 0 < number → Numbered rest → Numbered (check_all found number place rest)
+  tested_all (Some i) number place rest l n = above A number (place i) l
+  tested_all None number place rest l n = n
 
 node_numbered : (file : List ℕ) → Numbered (node_verdict file)
 unfolding node_verdict records_verdict types_verdict
@@ -89,9 +90,9 @@ node_numbered file =
     (tested (node_rules.property_ok (node_layout.type_byte_of file (property_of file))) 8 (AtRecord (property_of file)) _ (omega arith)
     (none _)))))))))
 
-lines : {A : Type 0} (found : Found) (number : ℕ → ℕ) (rest : Answer A) → ((i : ℕ) → found ≡ At i → 0 < number i) → Numbered rest → Numbered (check_lines found number rest)
-lines {A} (At i) number rest l n = above A (number i) (AtLine i) (l i refl)
-lines Nothing number rest l n = n
+lines : {A : Type 0} (found : Option ℕ) (number : ℕ → ℕ) (rest : Answer A) → ((i : ℕ) → found ≡ Some i → 0 < number i) → Numbered rest → Numbered (check_lines found number rest)
+lines {A} (Some i) number rest l n = above A (number i) (AtLine i) (l i refl)
+lines None number rest l n = n
 
 -- the number of a line that breaks a rule
 line_above : (node cert : List ℕ) (i : ℕ) → line_passes version2 node cert i ≡ false → 0 < line_fault version2 node cert i
@@ -123,8 +124,8 @@ file_numbered node cert =
 
 after : {A B : Type 0} (a : Answer A) (b : Answer B) → Numbered a → Numbered b → Numbered (and_then a b)
 unfolding Numbered
-after (accepted v) b n m = m
-after (refused number place) b n m = n
+after (Ok v) b n m = m
+after (Err r) b n m = n
 
 before_numbered : (node cert : List ℕ) → Numbered (before_lines version2 node cert)
 unfolding before_lines
@@ -195,18 +196,18 @@ look_up_numbered file count inputs stream instant =
 
 look_up_accepts : (a : Answer ℤ) → Numbered a → (told_look_up a).answer.number ≡ 0 → is_accepted a ≡ true
 unfolding told_look_up
-look_up_accepts (accepted x) n e = refl
-look_up_accepts (refused number place) n e = absurd (not_zero _ number place n e)
+look_up_accepts (Ok x) n e = refl
+look_up_accepts (Err r) n e = absurd (not_zero _ r.number r.place n e)
 
 turn_accepts : (a : TurnAnswer) → TurnNumbered a → (told_answer a).number ≡ 0 → (v : CertificateValues) × (a ≡ final (accepted v))
 unfolding TurnNumbered told_answer told_certificate
-turn_accepts (final (accepted v)) n e = (v, refl)
-turn_accepts (final (refused number place)) n e = absurd (not_zero _ number place n e)
+turn_accepts (final (Ok v)) n e = (v, refl)
+turn_accepts (final (Err r)) n e = absurd (not_zero _ r.number r.place n e)
 turn_accepts unfinished n e = absurd (omega (arith, e))
 
 zero_accepts : {A : Type 0} (values : A → Told) (a : Answer A) → Numbered a → (told_of values a).number ≡ 0 → is_accepted a ≡ true
-zero_accepts values (accepted v) n e = refl
-zero_accepts values (refused number place) n e = absurd (not_zero _ number place n e)
+zero_accepts values (Ok v) n e = refl
+zero_accepts values (Err r) n e = absurd (not_zero _ r.number r.place n e)
 
 pub zero : ZeroAccepts
 unfolding told_node told_certificate told_plain told_turn

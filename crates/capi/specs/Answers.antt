@@ -1,8 +1,10 @@
 -- An answer in numbers. 0 stands for accepted, and for no place; a refusal has the paper's number.
-use Rattle.std.specs.Prelude.{ℕ, ℤ, pos}
+use Rattle.std.specs.Prelude.{ℕ, ℤ, pos, Err, Ok}
 use Rattle.answers.specs.declared.Place.{Place}
 use Rattle.answers.specs.declared.Place.TheVariants.{File, Record, Constraint, Line, Base, Step}
-use Rattle.answers.specs.Answer.{Answer, accepted, refused, NodeValues, CertificateValues, TurnAnswer, final, unfinished}
+use Rattle.answers.specs.Answer.{Answer, TurnAnswer, final, unfinished}
+use Rattle.answers.specs.declared.NodeValues.{NodeValues}
+use Rattle.answers.specs.declared.CertificateValues.{CertificateValues}
 use Rattle.rules.specs.Turns.{Turn}
 use Rattle.capi.specs.declared.told.Told.{Told}
 use Rattle.capi.specs.declared.turns.ToldTurn.{ToldTurn}
@@ -35,8 +37,8 @@ told_refused number place =
 
 -- an answer, where `values` tells what an accepted one carries
 abbrev pub told_of : {A : Type 0} → (values : A → Told) → Answer A → Told
-told_of values (accepted a) = values a
-told_of values (refused number place) = told_refused number place
+told_of values (Ok a) = values a
+told_of values (Err r) = told_refused r.number r.place
 
 -- a node file's: streams and property
 unfoldable pub told_node : Answer NodeValues → Told
@@ -65,5 +67,5 @@ told_turn t = record { answer = told_answer t.answer; progress = record { line =
 
 -- a look-up: its answer without values, and beside it the value, 0 where it is refused
 unfoldable pub told_look_up : Answer ℤ → ToldLookUp
-told_look_up (accepted x) = record { answer = told_accepted 0 0 0; value = x }
-told_look_up (refused number place) = record { answer = told_refused number place; value = pos 0 }
+told_look_up (Ok x) = record { answer = told_accepted 0 0 0; value = x }
+told_look_up (Err r) = record { answer = told_refused r.number r.place; value = pos 0 }

@@ -1,6 +1,7 @@
 -- What is proved of the exported calls, stated without the proofs.
 use Rattle.std.specs.Prelude.{ℕ, ◌+◌, ◌≡◌, true, List, ℤ}
-use Rattle.answers.specs.Answer.{Answer, accepted, is_accepted, CertificateValues, TurnAnswer, final}
+use Rattle.answers.specs.Answer.{Answer, accepted, is_accepted, TurnAnswer, final}
+use Rattle.answers.specs.declared.CertificateValues.{CertificateValues}
 use Rattle.node.specs.Reads.{All}
 use Rattle.node.specs.Verdict.{verdict_of as node_verdict}
 use Rattle.streams.specs.Solutions.{Streams}

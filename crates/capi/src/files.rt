@@ -8,14 +8,14 @@ ghost use Rattle.rules.specs.Verdict.{verdict_of};
 ghost use Rattle.rules.specs.Versions.{version2};
 ghost use Rattle.capi.specs.Answers.{told_node, told_certificate, told_plain};
 
-use crate::told::{Told, told_certificate, told_listed, told_node};
+use crate::told::Told;
 
 // The verdict on a node file.
 #[unsafe(no_mangle)]
 pub extern "C" fn conuhawe_read(node: &[u8]) -> Told
     ensures { result ≡ told_node (nodeVerdictOf node.now) }
 {
-    told_node(node::verdict(node))
+    node::verdict(node).into()
 }
 
 // The verdict on a node file and a certificate.
@@ -23,7 +23,7 @@ pub extern "C" fn conuhawe_read(node: &[u8]) -> Told
 pub extern "C" fn conuhawe_check(node: &[u8], cert: &[u8]) -> Told
     ensures { result ≡ told_certificate (verdict_of version2 node.now cert.now) }
 {
-    told_certificate(certificate::verdict(node, cert))
+    certificate::verdict(node, cert).into()
 }
 
 // The verdict on a node file and its table of ranges: least and greatest of stream 0, of stream 1, and on.
@@ -31,7 +31,7 @@ pub extern "C" fn conuhawe_check(node: &[u8], cert: &[u8]) -> Told
 pub extern "C" fn conuhawe_ranges(node: &[u8], table: &[i64]) -> Told
     ensures { result ≡ told_plain (listing_of node.now table.now) }
 {
-    told_listed(ranges::listed(node, table))
+    ranges::listed(node, table).into()
 }
 
 // How many leading bytes of a node file are its note; 0 where 1 to 8 or 23 refuse it.

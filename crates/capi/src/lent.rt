@@ -5,7 +5,7 @@ ghost use Rattle.session.specs.Instants.{answer_of, slice_of, trial_of, commit_a
 ghost use Rattle.session.specs.Records.{begun_of};
 ghost use Rattle.capi.specs.Answers.{told_node, told_plain};
 
-use crate::told::{Told, told_instant, told_node};
+use crate::told::Told;
 use session::Session;
 
 // A beginning: the record is set to an accepted file's node, before instant 0; a refusal leaves it.
@@ -13,7 +13,7 @@ use session::Session;
 pub extern "C" fn conuhawe_begin(s: &mut Session, file: &[u8]) -> Told
     ensures { (result ≡ told_node (verdict_of file.now)) × (s.new ≡ begun_of file.now s.old) }
 {
-    told_node(session::begin(s, file))
+    session::begin(s, file).into()
 }
 
 // A trial: an answered one is kept in the record, which stays at its instant, and fills the slice; a refusal leaves both.
@@ -23,7 +23,7 @@ pub extern "C" fn conuhawe_trial(s: &mut Session, inputs: &[i64], values: &mut [
         × (s.new ≡ trial_of s.old inputs.now (length values.old))
         × (values.new ≡ slice_of s.old inputs.now values.old) }
 {
-    told_instant(session::trial(s, inputs, values))
+    session::trial(s, inputs, values).into()
 }
 
 // A commit: an answered one moves the record on to its trial; a refusal leaves it.
@@ -31,7 +31,7 @@ pub extern "C" fn conuhawe_trial(s: &mut Session, inputs: &[i64], values: &mut [
 pub extern "C" fn conuhawe_commit(s: &mut Session) -> Told
     ensures { (result ≡ told_plain (commit_answer s.old)) × (s.new ≡ commit_of s.old) }
 {
-    told_instant(session::commit(s))
+    session::commit(s).into()
 }
 
 // An instant's call, a trial and its commit: an answered one moves the record on and fills the slice; a refusal leaves both.
@@ -41,5 +41,5 @@ pub extern "C" fn conuhawe_instant(s: &mut Session, inputs: &[i64], values: &mut
         × (s.new ≡ session_of s.old inputs.now (length values.old))
         × (values.new ≡ slice_of s.old inputs.now values.old) }
 {
-    told_instant(session::instant(s, inputs, values))
+    session::instant(s, inputs, values).into()
 }

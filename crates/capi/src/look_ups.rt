@@ -1,10 +1,9 @@
 // Looking up one stream in a short pass: the answer comes with the value.
 ghost use Rattle.std.specs.Prelude.{◌≡◌};
-ghost use Rattle.answers.specs.Answer.{look_up_answer};
 ghost use Rattle.look_up.specs.LookUp.{look_up_of};
 ghost use Rattle.capi.specs.Answers.{told_look_up};
 
-use crate::told::{Told, accepted, refused};
+use crate::told::{Told, accepted};
 use answers::LookUpVerdict;
 
 // A look-up: its answer in numbers, and the value, 0 where it is refused.
@@ -15,18 +14,21 @@ pub struct ToldLookUp {
     pub value: i64,
 }
 
-fn told_look_up(verdict: LookUpVerdict) -> ToldLookUp
-    ensures { result ≡ told_look_up (look_up_answer verdict) }
-{
-    match verdict {
-        LookUpVerdict::Value(x) => ToldLookUp {
-            answer: accepted(0, 0, 0),
-            value: x,
-        },
-        LookUpVerdict::Refused(number, place) => ToldLookUp {
-            answer: refused(number, place),
-            value: 0,
-        },
+impl From<LookUpVerdict> for ToldLookUp {
+    ghost from_gives = { λ verdict told. told ≡ told_look_up verdict };
+
+    #[tactic(auto, unfolding(crate::specs::Answers::told_look_up))]
+    fn from(verdict: LookUpVerdict) -> ToldLookUp {
+        match verdict {
+            Ok(value) => ToldLookUp {
+                answer: accepted(0, 0, 0),
+                value,
+            },
+            Err(refusal) => ToldLookUp {
+                answer: refusal.into(),
+                value: 0,
+            },
+        }
     }
 }
 
@@ -41,5 +43,5 @@ pub extern "C" fn conuhawe_look_up(
 ) -> ToldLookUp
     ensures { result ≡ told_look_up (look_up_of node.now instants inputs.now stream instant) }
 {
-    told_look_up(look_up::look_up(node, instants, inputs, stream, instant))
+    look_up::look_up(node, instants, inputs, stream, instant).into()
 }

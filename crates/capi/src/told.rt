@@ -1,9 +1,8 @@
 // Answers in numbers.
 ghost use Rattle.std.specs.Prelude.{◌≡◌};
-ghost use Rattle.answers.specs.Answer.{node_answer, certificate_answer, turn_answer, instant_answer, listed_answer};
 ghost use Rattle.capi.specs.Answers.{place_number, place_index, told_accepted, told_refused, told_node, told_certificate, told_plain, told_unfinished, told_answer};
 
-use answers::{CertificateVerdict, InstantVerdict, ListedVerdict, NodeVerdict, Place, TurnVerdict};
+use answers::{CertificateVerdict, NodeVerdict, Place, Refusal, TurnVerdict};
 
 // An answer in numbers; specs/Answers.antt gives each.
 #[repr(C)]
@@ -34,12 +33,8 @@ fn place_index(place: Place) -> usize
     ensures { result ≡ place_index place }
 {
     match place {
-        Place::File => 0,
-        Place::Record(i) => i,
-        Place::Constraint(i) => i,
-        Place::Line(i) => i,
-        Place::Base => 0,
-        Place::Step => 0,
+        Place::Record(i) | Place::Constraint(i) | Place::Line(i) => i,
+        Place::File | Place::Base | Place::Step => 0,
     }
 }
 
@@ -56,69 +51,76 @@ pub fn accepted(first: usize, second: usize, third: usize) -> Told
     }
 }
 
-pub fn refused(number: usize, place: Place) -> Told
-    ensures { result ≡ told_refused number place }
-{
-    Told {
-        number,
-        place: place_number(place),
-        index: place_index(place),
-        first: 0,
-        second: 0,
-        third: 0,
-    }
-}
-
-pub fn told_node(verdict: NodeVerdict) -> Told
-    ensures { result ≡ told_node (node_answer verdict) }
-{
-    match verdict {
-        NodeVerdict::Accepted { streams, property } => accepted(streams, property, 0),
-        NodeVerdict::Refused(number, place) => refused(number, place),
-    }
-}
-
-pub fn told_certificate(verdict: CertificateVerdict) -> Told
-    ensures { result ≡ told_certificate (certificate_answer verdict) }
-{
-    match verdict {
-        CertificateVerdict::Accepted { depth, base, step } => accepted(depth, base, step),
-        CertificateVerdict::Refused(number, place) => refused(number, place),
-    }
-}
-
 // No place and no values, as an accepted answer has them.
 fn unfinished() -> Told
     ensures { result ≡ told_unfinished }
 {
-    let mut t = accepted(0, 0, 0);
-    t.number = 256;
-    t
-}
-
-pub fn told_answer(verdict: TurnVerdict) -> Told
-    ensures { result ≡ told_answer (turn_answer verdict) }
-{
-    match verdict {
-        TurnVerdict::Final(answer) => told_certificate(answer),
-        TurnVerdict::Unfinished => unfinished(),
+    Told {
+        number: 256,
+        ..accepted(0, 0, 0)
     }
 }
 
-pub fn told_instant(verdict: InstantVerdict) -> Told
-    ensures { result ≡ told_plain (instant_answer verdict) }
-{
-    match verdict {
-        InstantVerdict::Answered => accepted(0, 0, 0),
-        InstantVerdict::Refused(number, place) => refused(number, place),
+impl From<Refusal> for Told {
+    ghost from_gives = { λ refusal told. told ≡ told_refused refusal.number refusal.place };
+
+    fn from(refusal: Refusal) -> Told {
+        Told {
+            number: refusal.number,
+            place: place_number(refusal.place),
+            index: place_index(refusal.place),
+            first: 0,
+            second: 0,
+            third: 0,
+        }
     }
 }
 
-pub fn told_listed(verdict: ListedVerdict) -> Told
-    ensures { result ≡ told_plain (listed_answer verdict) }
-{
-    match verdict {
-        ListedVerdict::Listed => accepted(0, 0, 0),
-        ListedVerdict::Refused(number, place) => refused(number, place),
+impl From<NodeVerdict> for Told {
+    ghost from_gives = { λ verdict told. told ≡ told_node verdict };
+
+    #[tactic(auto, unfolding(crate::specs::Answers::told_node))]
+    fn from(verdict: NodeVerdict) -> Told {
+        match verdict {
+            Ok(values) => accepted(values.streams, values.property, 0),
+            Err(refusal) => refusal.into(),
+        }
+    }
+}
+
+impl From<CertificateVerdict> for Told {
+    ghost from_gives = { λ verdict told. told ≡ told_certificate verdict };
+
+    #[tactic(auto, unfolding(crate::specs::Answers::told_certificate))]
+    fn from(verdict: CertificateVerdict) -> Told {
+        match verdict {
+            Ok(values) => accepted(values.depth, values.base, values.step),
+            Err(refusal) => refusal.into(),
+        }
+    }
+}
+
+impl From<TurnVerdict> for Told {
+    ghost from_gives = { λ verdict told. told ≡ told_answer verdict };
+
+    #[tactic(auto, unfolding(crate::specs::Answers::told_answer))]
+    fn from(verdict: TurnVerdict) -> Told {
+        match verdict {
+            Some(answer) => answer.into(),
+            None => unfinished(),
+        }
+    }
+}
+
+// An answer that carries nothing when it is accepted: an instant's call's, and a table of ranges'.
+impl From<Result<(), Refusal>> for Told {
+    ghost from_gives = { λ verdict told. told ≡ told_plain verdict };
+
+    #[tactic(auto, unfolding(crate::specs::Answers::told_plain))]
+    fn from(verdict: Result<(), Refusal>) -> Told {
+        match verdict {
+            Ok(()) => accepted(0, 0, 0),
+            Err(refusal) => refusal.into(),
+        }
     }
 }

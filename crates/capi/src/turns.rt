@@ -5,7 +5,7 @@ ghost use Rattle.rules.specs.Versions.{version2};
 ghost use Rattle.certificate.specs.Turned.{begun};
 ghost use Rattle.capi.specs.Answers.{told_turn};
 
-use crate::told::{Told, told_answer};
+use crate::told::Told;
 use certificate::Progress;
 
 // A turn: its answer in numbers, the record and the number checked.
@@ -26,6 +26,7 @@ pub extern "C" fn conuhawe_turns_begin() -> Progress
 }
 
 // A turn on a node file and a certificate.
+#[tactic(auto, unfolding(crate::specs::Answers::told_turn))]
 #[unsafe(no_mangle)]
 pub extern "C" fn conuhawe_turn(
     node: &[u8],
@@ -36,11 +37,9 @@ pub extern "C" fn conuhawe_turn(
     ensures { result ≡ told_turn (turn_of version2 node.now cert.now progress.line quota) }
 {
     let t = certificate::turn(node, cert, progress, quota);
-    let verdict = t.verdict;
-    let next = t.progress;
     ToldTurn {
-        answer: told_answer(verdict),
-        progress: next,
+        answer: t.verdict.into(),
+        progress: t.progress,
         checked: t.checked,
     }
 }

@@ -5,8 +5,9 @@ use mathlib.Core.List.{List}
 use Prim.Native.Nat.{ℕ, ◌≤◌, ◌+◌, ◌*◌}
 use native.Mathlib.Omega.{arith}
 use lib.ListN.{length}
-use Rattle.answers.specs.declared.Place.{Place}
-use Rattle.answers.specs.Answer.{Answer, accepted, refused, NodeValues}
+use Rattle.answers.specs.declared.Refusal.{Refusal}
+use Rattle.answers.specs.Answer.{Answer, accepted, refused}
+use Rattle.answers.specs.declared.NodeValues.{NodeValues}
 use Rattle.answers.specs.Checks.{lowest}
 use Rattle.node.specs.Layout.{records_of}
 use Rattle.node.specs.Verdict.{verdict_of as node_verdict}
@@ -24,8 +25,8 @@ use Rattle.rules.proofs.Outcomes.{file_opens}
 use Rattle.lines.specs.declared.frame.Frame.{Frame}
 use Rattle.lines.specs.Checking.{Checking}
 use Rattle.lines.specs.Frame.{frame_of}
-use Rattle.certificate.specs.declared.reading.Opened.TheVariants.{Passed, Refused}
 use Rattle.certificate.specs.Opening.{NodePassed, FilePassed, opening_of}
+use Rattle.std.specs.Prelude.{Err, Ok}
 
 -- an accepted node file, from the values that its answer carries
 pub node_passed : (node : List ℕ) (n property : ℕ) → node_verdict node ≡ accepted (record { streams = n; property = property }) → NodePassed node n property
@@ -62,16 +63,16 @@ module _ (cert : List ℕ) (t : Trailer) (of_file : FilePassed cert t) where
       rw (e, of_file.trailer) (ap (λ (f : Types). lowest (passes_from f (trailer_of cert).depth cert (start_of cert)) (trailer_of cert).constraints) (sym (fun_ext are_types)))
 
 -- what an opening says that has passed
-opened : (t u : Trailer) (a : Answer (Unit {0})) → Passed t ≡ opening_of u a → (a ≡ accepted tt) × (t ≡ u)
-opened t u (accepted v) e = (refl, cc)
-opened t u (refused number place) e = let z : ◌≡◌ {A = ℕ} 0 1 = cc in absurd (omega arith)
+opened : (t u : Trailer) (a : Answer (Unit {0})) → ◌≡◌ {A = Answer Trailer} (Ok t) (opening_of u a) → (a ≡ accepted tt) × (t ≡ u)
+opened t u (Ok v) e = (refl, cc)
+opened t u (Err r) e = cc
 
 -- .. and one that has not
-pub unopened : (t : Trailer) (a : Answer (Unit {0})) (number : ℕ) (place : Place) → Refused number place ≡ opening_of t a → a ≡ refused number place
-unopened t (accepted v) number place e = let z : ◌≡◌ {A = ℕ} 0 1 = cc in absurd (omega arith)
-unopened t (refused m at) number place e = cc
+pub unopened : (t : Trailer) (a : Answer (Unit {0})) (r : Refusal) → ◌≡◌ {A = Answer Trailer} (Err r) (opening_of t a) → a ≡ Err r
+unopened t (Ok v) r e = cc
+unopened t (Err s) r e = cc
 
-module _ (node cert : List ℕ) (t : Trailer) (n property : ℕ) (of_node : NodePassed node n property) (e : Passed t ≡ opening_of (trailer_of cert) (file_verdict version2 node cert)) where
+module _ (node cert : List ℕ) (t : Trailer) (n property : ℕ) (of_node : NodePassed node n property) (e : ◌≡◌ {A = Answer Trailer} (Ok t) (opening_of (trailer_of cert) (file_verdict version2 node cert))) where
   pub file_accepted : file_verdict version2 node cert ≡ accepted tt
   file_accepted = (opened t (trailer_of cert) (file_verdict version2 node cert) e).0
 

@@ -4,11 +4,9 @@ use Rattle.node.specs.Layout.{streams_of, property_of}
 use Rattle.node.specs.Outcome.{NodeRules}
 use Rattle.constraints.specs.declared.layout.Trailer.{Trailer}
 use Rattle.constraints.specs.Layout.{trailer_of}
-use Rattle.answers.specs.Answer.{Answer, accepted, refused}
+use Rattle.answers.specs.Answer.{Answer, answer_map}
 use Rattle.rules.specs.Note.{file_ok}
 use Rattle.rules.specs.Versions.{version2}
-use Rattle.certificate.specs.declared.reading.Opened.{Opened}
-use Rattle.certificate.specs.declared.reading.Opened.TheVariants.{Passed, Refused}
 
 -- rules 1 to 8 and 23 have passed, and the node's sizes are at hand
 pub record NodePassed (node : List ℕ) (n property : ℕ) : Type 0 where
@@ -22,6 +20,5 @@ pub record FilePassed (cert : List ℕ) (t : Trailer) : Type 0 where
   pub file : file_ok version2 cert ≡ true
 
 -- the opening of a certificate: its trailer where 11 to 15 pass, else their refusal
-abbrev pub opening_of : Trailer → Answer (Unit {0}) → Opened
-opening_of t (accepted passed) = Passed t
-opening_of t (refused number place) = Refused number place
+abbrev pub opening_of : Trailer → Answer (Unit {0}) → Answer Trailer
+opening_of t = answer_map (λ _. t)

@@ -4,7 +4,6 @@ ghost use Rattle.answers.specs.Checks.{every, lowest};
 ghost use Rattle.constraints.specs.Layout.{constraint_at, term_at};
 ghost use Rattle.constraints.specs.Rules.{types_of, between, used_ok, rises, unused_ok, term_ok, constraint_ok, constraint_passes};
 
-use answers::Found;
 use constraints::{Term, block_at, constraint_head, term_at, type_at};
 
 fn between(low: i64, z: i64, high: i64) -> bool
@@ -68,27 +67,18 @@ fn are_terms_ok(file: &[u8], at: usize, types: &[u8], k: u8, count: u8) -> bool
     requires { at + 80 ≤ length file.now }
     ensures { result ≡ every (term_ok (types_of types.now) k count (term_at file.now at)) 8 }
 {
-    let mut j = 0;
-    while j < 8 {
-        if !is_term_ok(file, at, types, k, count, j) {
-            return false;
-        }
-        j += 1;
-    }
-    true
+    (0..8).all(|j| is_term_ok(file, at, types, k, count, j))
 }
 
 // The lowest of the m constraints from an offset on that breaks its rules.
-pub fn first_bad(file: &[u8], start: usize, m: usize, types: &[u8], k: u8) -> Found
+pub fn first_bad(file: &[u8], start: usize, m: usize, types: &[u8], k: u8) -> Option<usize>
     requires { start + 80 * m ≤ length file.now }
     ensures { result ≡ lowest (constraint_passes (types_of types.now) k file.now start) m }
 {
-    let mut i = 0;
-    while i < m {
+    for i in 0..m {
         if !constraint_ok(file, block_at(start, i), types, k) {
-            return Found::At(i);
+            return Some(i);
         }
-        i += 1;
     }
-    Found::Nothing
+    None
 }

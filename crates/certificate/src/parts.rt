@@ -12,10 +12,8 @@ pub fn has_empty(file: &[u8], lines: usize, from: usize, n: usize) -> bool
     requires { lines + 80 * (from + n) ≤ length file.now }
     ensures { result ≡ not (every (has_literals (lines_at file.now lines) from) n) }
 {
-    let mut left = n;
-    while 0 < left {
-        left -= 1;
-        let head = line_head(file, block_at(lines, from + left));
+    for i in (0..n).rev() {
+        let head = line_head(file, block_at(lines, from + i));
         if head.count == 0 {
             return true;
         }

@@ -1,6 +1,5 @@
 // Turns on a node file and a certificate, and the verdict, which is one of them: all rules in the paper's order, the first failure given.
 ghost use Rattle.std.specs.Prelude.{ℕ, ◌≡◌};
-ghost use Rattle.answers.specs.Answer.{certificate_answer};
 ghost use Rattle.constraints.specs.Layout.{trailer_of};
 ghost use Rattle.constraints.specs.Rules.{types_of};
 ghost use Rattle.rules.specs.Turns.{due_of, then_turn, lines_turn, moved, turn_of};
@@ -13,52 +12,42 @@ use crate::checker::lines_turn;
 use crate::constraint_rules::first_bad;
 use crate::frame::{frame_of, start_of};
 use crate::refusals;
-use crate::turned::{Progress, Turned, begin, refused};
+use crate::turned::{Progress, Turned, begin, unmoved};
 use crate::types::types_of;
-use answers::{CertificateVerdict, Found, NodeVerdict, Place, TurnVerdict};
+use answers::{CertificateVerdict, Place, Refusal, check, refused};
 use constraints::{Trailer, counts_ok, distance_ok, fixed_ok, trailer_of};
 use node::length_ok;
 
-// What the checks of the certificate file and its constraints give: the trailer, or a refusal.
-#[derive(Clone, Copy)]
-pub enum Opened {
-    Passed(Trailer),
-    Refused(usize, Place),
-}
-
-// Rule 15, where 11 to 14 have passed.
-fn constraints_opening(node: &[u8], cert: &[u8], types: &[u8], t: Trailer) -> Opened
+// Rule 15, where 11 to 14 have passed: the trailer, or the refusal.
+fn constraints_opening(
+    node: &[u8],
+    cert: &[u8],
+    types: &[u8],
+    t: Trailer,
+) -> Result<Trailer, Refusal>
     requires file_passed { FilePassed cert.now t }
     requires by_index { (x : ℕ) → types_of types.now x ≡ types_of_node node.now x }
     ensures { result ≡ opening_of (trailer_of cert.now) (constraints_verdict node.now cert.now) }
 {
     let start = start_of(cert, t);
     let m = t.constraints as usize;
-    if let Found::At(i) = first_bad(cert, start, m, types, t.depth) {
-        return Opened::Refused(refusals::CONSTRAINT, Place::Constraint(i));
+    match first_bad(cert, start, m, types, t.depth) {
+        Some(i) => refused(refusals::CONSTRAINT, Place::Constraint(i)),
+        None => Ok(t),
     }
-    Opened::Passed(t)
 }
 
 // Rules 11 to 15.
-fn opening(node: &[u8], cert: &[u8], types: &[u8]) -> Opened
+fn opening(node: &[u8], cert: &[u8], types: &[u8]) -> Result<Trailer, Refusal>
     requires { (x : ℕ) → types_of types.now x ≡ types_of_node node.now x }
     ensures { result ≡ opening_of (trailer_of cert.now) (file_verdict version2 node.now cert.now) }
 {
     let size = cert.len();
-    if !length_ok(size) {
-        return Opened::Refused(refusals::LENGTH, Place::File);
-    }
+    check(length_ok(size), refusals::LENGTH, Place::File)?;
     let t = trailer_of(cert);
-    if !fixed_ok(t) {
-        return Opened::Refused(refusals::FIXED_BYTES, Place::File);
-    }
-    if !counts_ok(t) {
-        return Opened::Refused(refusals::COUNTS, Place::File);
-    }
-    if !distance_ok(t, size) {
-        return Opened::Refused(refusals::DISTANCE, Place::File);
-    }
+    check(fixed_ok(t), refusals::FIXED_BYTES, Place::File)?;
+    check(counts_ok(t), refusals::COUNTS, Place::File)?;
+    check(distance_ok(t, size), refusals::DISTANCE, Place::File)?;
     constraints_opening(node, cert, types, t)
 }
 
@@ -76,11 +65,11 @@ fn certificate_turn(
 {
     let types = types_of(node, n);
     match opening(node, cert, &types) {
-        Opened::Passed(t) => {
+        Ok(t) => {
             let f = frame_of(cert, t, n, property);
             lines_turn(node, cert, &types, f, progress, quota)
         }
-        Opened::Refused(number, place) => refused(progress, number, place),
+        Err(refusal) => unmoved(progress, refusal),
     }
 }
 
@@ -89,10 +78,17 @@ pub fn turn(node: &[u8], cert: &[u8], progress: Progress, quota: usize) -> Turne
     ensures { as_turn result ≡ turn_of version2 node.now cert.now progress.line quota }
 {
     match node::verdict(node) {
-        NodeVerdict::Accepted { streams, property } => {
-            certificate_turn(node, cert, streams, property as u16, progress, quota)
+        Ok(values) => {
+            certificate_turn(
+                node,
+                cert,
+                values.streams,
+                values.property as u16,
+                progress,
+                quota,
+            )
         }
-        NodeVerdict::Refused(number, place) => refused(progress, number, place),
+        Err(refusal) => unmoved(progress, refusal),
     }
 }
 
@@ -101,13 +97,7 @@ const MOST_LINES: usize = 818;
 
 // The verdict on a node file and a certificate: one turn with everything, which leaves no line.
 pub fn verdict(node: &[u8], cert: &[u8]) -> CertificateVerdict
-    ensures { certificate_answer result ≡ verdict_of version2 node.now cert.now }
+    ensures { result ≡ verdict_of version2 node.now cert.now }
 {
-    let turned = turn(node, cert, begin(), MOST_LINES);
-    let answer = turned.verdict;
-    match answer {
-        TurnVerdict::Final(verdict) => verdict,
-        // proved not to be met
-        TurnVerdict::Unfinished => CertificateVerdict::Refused(refusals::PROGRESS, Place::File),
-    }
+    turn(node, cert, begin(), MOST_LINES).verdict.unwrap()
 }

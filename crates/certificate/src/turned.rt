@@ -2,11 +2,11 @@
 ghost use Rattle.std.specs.Prelude.{◌+◌, ◌≡◌};
 ghost use Rattle.std.specs.Int.{w64};
 ghost use Rattle.std.proofs.Common.{Fits};
-ghost use Rattle.answers.specs.Answer.{refused as refusal, final, turn_answer};
+ghost use Rattle.answers.specs.Answer.{final};
 ghost use Rattle.rules.specs.Turns.{moved};
 ghost use Rattle.certificate.specs.Turned.{begun, as_turn};
 
-use answers::{CertificateVerdict, Place, TurnVerdict};
+use answers::{Refusal, TurnVerdict};
 
 // The number of the next line to check, by value.
 #[repr(C)]
@@ -30,11 +30,11 @@ pub fn begin() -> Progress
 }
 
 // A refused turn: the record unmoved, and 0.
-pub fn refused(progress: Progress, number: usize, place: Place) -> Turned
-    ensures { as_turn result ≡ moved (final (refusal number place)) progress.line 0 }
+pub fn unmoved(progress: Progress, refusal: Refusal) -> Turned
+    ensures { as_turn result ≡ moved (final (Err refusal)) progress.line 0 }
 {
     Turned {
-        verdict: TurnVerdict::Final(CertificateVerdict::Refused(number, place)),
+        verdict: Some(Err(refusal)),
         progress,
         checked: 0,
     }
@@ -43,7 +43,7 @@ pub fn refused(progress: Progress, number: usize, place: Place) -> Turned
 // A turn that is not refused: the record moves on by the n lines that were checked.
 pub fn moved_on(progress: Progress, n: usize, verdict: TurnVerdict) -> Turned
     requires { Fits w64 (progress.line + n) }
-    ensures { as_turn result ≡ record { answer = turn_answer verdict; line = progress.line + n; checked = n } }
+    ensures { as_turn result ≡ record { answer = verdict; line = progress.line + n; checked = n } }
 {
     let line = progress.line + n;
     Turned {

@@ -24,10 +24,8 @@ pub fn types_of(file: &[u8], n: usize) -> [u8; 64]
     ensures types { (x : ℕ) → types_of result x ≡ types_below file.now n x }
 {
     let mut types = [2u8; 64];
-    let mut i = 0;
-    while i < n {
+    for i in 0..n {
         types[i] = byte_of(type_among(file, n, i));
-        i += 1;
     }
     types
 }

@@ -9,8 +9,5 @@ fn main(rt: HostRuntime) {
     let mut cert = [0u8; 65536];
     let n = read_file(&rt, b"node.bin", &mut node);
     let m = read_file(&rt, b"cert.bin", &mut cert);
-    let mut line = [0u8; 96];
-    let length = report::write_line(certificate::verdict(&node[..n], &cert[..m]), &mut line);
-    // A write that fails is passed over.
-    let _ = rt.write_all(&line[..length]);
+    report::say_verdict(&rt, certificate::verdict(&node[..n], &cert[..m]));
 }

@@ -3,20 +3,14 @@
 #![tactic(auto)]
 
 ghost use Rattle.std.specs.Prelude.{◌≡◌};
-ghost use Rattle.answers.specs.Answer.{listed_answer};
 ghost use Rattle.ranges.specs.Listing.{listing_of};
 ghost use Rattle.check_ranges.specs.Table.{size_of, table_of};
 
-use answers::{CertificateVerdict, ListedVerdict};
-use files::{argument, argument_count, read_file};
+use answers::ListedVerdict;
+use files::{argument_count, argument_file, say_argument};
 use numbers::read_numbers;
 use ranges::listed;
 use std::rt::{Env, Files};
-
-// A write that fails is passed over.
-fn say(rt: &impl Print, text: &[u8]) {
-    let _ = rt.write_all(text);
-}
 
 // How many numbers a table file has: 8 bytes each. One whose length is no multiple of 8 has none, and more than 129, which is one
 // more than the largest node's table has, are 129.
@@ -26,49 +20,36 @@ fn size_of(bytes: &[u8]) -> usize
     if bytes.len() % 8 != 0 {
         return 0;
     }
-    let n = bytes.len() / 8;
-    if n < 129 { n } else { 129 }
+    (bytes.len() / 8).min(129)
 }
 
 // The answer to a node file and a table file.
 fn listing(node: &[u8], bytes: &[u8]) -> ListedVerdict
-    ensures { listed_answer result ≡ listing_of node.now (table_of bytes.now) }
+    ensures { result ≡ listing_of node.now (table_of bytes.now) }
 {
     let mut table = [0i64; 129];
     read_numbers(bytes, &mut table);
-    let n = size_of(bytes);
-    listed(node, &table[..n])
+    listed(node, &table[..size_of(bytes)])
 }
 
-// A refusal is said as that of a certificate is.
+// A write that fails is passed over.
 fn say_verdict(rt: &impl Print, verdict: ListedVerdict) {
     match verdict {
-        ListedVerdict::Listed => say(rt, b"listed\n"),
-        ListedVerdict::Refused(number, place) => {
-            let mut line = [0u8; 96];
-            let length = report::write_line(CertificateVerdict::Refused(number, place), &mut line);
-            say(rt, &line[..length]);
+        Ok(()) => {
+            let _ = println!(rt; "listed");
         }
+        Err(refusal) => report::say_verdict(rt, Err(refusal)),
     }
-}
-
-fn check_files(rt: &(impl Files + Print), node_path: &[u8], table_path: &[u8]) {
-    let mut node = [0u8; 65536];
-    let mut table = [0u8; 65536];
-    let n = read_file(rt, node_path, &mut node);
-    let m = read_file(rt, table_path, &mut table);
-    say_verdict(rt, listing(&node[..n], &table[..m]));
 }
 
 // The pair that two arguments name.
 fn check_pair(rt: &(impl Env + Files + Print), node_number: usize, table_number: usize) {
-    let mut node_path = [0u8; 4096];
-    let mut table_path = [0u8; 4096];
-    let n = argument(rt, node_number, &mut node_path);
-    let m = argument(rt, table_number, &mut table_path);
-    say(rt, &table_path[..m]);
-    say(rt, b": ");
-    check_files(rt, &node_path[..n], &table_path[..m]);
+    let mut node = [0u8; 65536];
+    let mut table = [0u8; 65536];
+    say_argument(rt, table_number);
+    let node = argument_file(rt, node_number, &mut node);
+    let table = argument_file(rt, table_number, &mut table);
+    say_verdict(rt, listing(node, table));
 }
 
 // Argument 0 is the program's own name. A last node file without a table file's name has an empty table.

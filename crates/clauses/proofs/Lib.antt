@@ -1,4 +1,2 @@
-pub mod Cases
 pub mod Limits
 pub mod Numbering
-pub mod Widening

@@ -1,201 +1,199 @@
 // The clauses of each operator, over variables.
-ghost use Rattle.std.specs.Prelude.{◌≡◌, [], ◌∷◌, neg_ℤ};
+ghost use Rattle.std.specs.Prelude.{◌≡◌, ◌≤◌, IfSome, option_map};
 ghost use Rattle.node.specs.declared.equation.StreamType.TheVariants.{Bool as BoolType, Int as IntType};
 ghost use Rattle.node.specs.declared.equation.Equation.TheVariants.{Constant, Not, And, Or, Same, Multiple, AtMost, Equal, If, Lesser, Greater};
-ghost use Rattle.rules.specs.Clauses.{clause1, clause2, equal_to, same_as, numbered};
-ghost use Rattle.clauses.specs.Operators.{over, guarded_named, Has, Short};
+ghost use Rattle.rules.specs.Clauses.{equal_to, same_as, guarded, numbered};
+ghost use Rattle.clauses.specs.Operators.{over};
 
-use crate::lists::{less, most, of_four, of_one, of_three, of_two, one, three, two};
+use crate::parts::{difference, one, three, two};
 use node::StreamType;
-use rules::{Clause, Linear, Named, Pattern};
-
-// A constant, and its negation, in 64 bits.
-fn wide(k: i32) -> i64
-    ensures { result ≡ k }
-{
-    k as i64
-}
-
-fn minus(k: i32) -> i64
-    ensures { result ≡ neg_ℤ k }
-{
-    -wide(k)
-}
+use rules::{Clause, Linear, Pattern};
 
 // "{s ≤ e} {e ≤ s}", with e = a·x + b·y + k
-pub fn equal_to(s: u32, a: i32, x: u32, b: i32, y: u32, k: i32, r: u16) -> Named
+pub fn equal_to(s: u32, a: i32, x: u32, b: i32, y: u32, k: i32, r: u16) -> Option<Clause>
     ensures { result ≡ numbered (equal_to s a x b y k) r }
 {
     let upper = Linear {
         x: s,
         a: 1,
         y: x,
-        b: minus(a),
+        b: -i64::from(a),
         z: y,
-        c: minus(b),
-        bound: wide(k),
+        c: -i64::from(b),
+        bound: i64::from(k),
     };
     let lower = Linear {
         x: s,
         a: -1,
         y: x,
-        b: wide(a),
+        b: i64::from(a),
         z: y,
-        c: wide(b),
-        bound: minus(k),
+        c: i64::from(b),
+        bound: -i64::from(k),
     };
-    of_two(one(Pattern::Most(upper)), one(Pattern::Most(lower)), r)
+    match r {
+        0 => Some(one(Pattern::Most(upper))),
+        1 => Some(one(Pattern::Most(lower))),
+        _ => None,
+    }
 }
 
 // "{!s, t} {s, !t} or {s ≤ t} {t ≤ s}"
-pub fn same_as(ty: StreamType, s: u32, t: u32, r: u16) -> Named
+pub fn same_as(ty: StreamType, s: u32, t: u32, r: u16) -> Option<Clause>
     ensures { result ≡ numbered (same_as ty s t) r }
 {
     match ty {
-        StreamType::Bool => of_two(
-            two(Pattern::No(s), Pattern::Yes(t)),
-            two(Pattern::Yes(s), Pattern::No(t)),
-            r,
-        ),
-        StreamType::Int => of_two(one(most(s, t)), one(most(t, s)), r),
+        StreamType::Bool => match r {
+            0 => Some(two(Pattern::No(s), Pattern::Yes(t))),
+            1 => Some(two(Pattern::Yes(s), Pattern::No(t))),
+            _ => None,
+        },
+        StreamType::Int => match r {
+            0 => Some(one(difference(s, t, 0))),
+            1 => Some(one(difference(t, s, 0))),
+            _ => None,
+        },
     }
 }
 
 // Operator 1.
-pub fn constant(ty: StreamType, s: u32, k: i32, r: u16) -> Named
+pub fn constant(ty: StreamType, s: u32, k: i32, r: u16) -> Option<Clause>
     ensures { result ≡ numbered (over ty (Constant k) s) r }
 {
     match ty {
-        StreamType::Bool => if k <= 0 {
-            of_one(one(Pattern::No(s)), r)
-        } else {
-            of_one(one(Pattern::Yes(s)), r)
-        },
+        StreamType::Bool => {
+            let literal = if k <= 0 {
+                Pattern::No(s)
+            } else {
+                Pattern::Yes(s)
+            };
+            match r {
+                0 => Some(one(literal)),
+                _ => None,
+            }
+        }
         StreamType::Int => equal_to(s, 0, s, 0, s, k, r),
     }
 }
 
 // Operator 2.
-pub fn not(s: u32, a: u32, r: u16) -> Named
+pub fn not(s: u32, a: u32, r: u16) -> Option<Clause>
     ensures { result ≡ numbered (over BoolType (Not a) s) r }
 {
-    of_two(
-        two(Pattern::Yes(s), Pattern::Yes(a)),
-        two(Pattern::No(s), Pattern::No(a)),
-        r,
-    )
+    match r {
+        0 => Some(two(Pattern::Yes(s), Pattern::Yes(a))),
+        1 => Some(two(Pattern::No(s), Pattern::No(a))),
+        _ => None,
+    }
 }
 
 // Operator 3.
-pub fn and(s: u32, a: u32, b: u32, r: u16) -> Named
+pub fn and(s: u32, a: u32, b: u32, r: u16) -> Option<Clause>
     ensures { result ≡ numbered (over BoolType (And a b) s) r }
 {
-    of_three(
-        two(Pattern::No(s), Pattern::Yes(a)),
-        two(Pattern::No(s), Pattern::Yes(b)),
-        three(Pattern::Yes(s), Pattern::No(a), Pattern::No(b)),
-        r,
-    )
+    match r {
+        0 => Some(two(Pattern::No(s), Pattern::Yes(a))),
+        1 => Some(two(Pattern::No(s), Pattern::Yes(b))),
+        2 => Some(three(Pattern::Yes(s), Pattern::No(a), Pattern::No(b))),
+        _ => None,
+    }
 }
 
 // Operator 4.
-pub fn or(s: u32, a: u32, b: u32, r: u16) -> Named
+pub fn or(s: u32, a: u32, b: u32, r: u16) -> Option<Clause>
     ensures { result ≡ numbered (over BoolType (Or a b) s) r }
 {
-    of_three(
-        two(Pattern::Yes(s), Pattern::No(a)),
-        two(Pattern::Yes(s), Pattern::No(b)),
-        three(Pattern::No(s), Pattern::Yes(a), Pattern::Yes(b)),
-        r,
-    )
+    match r {
+        0 => Some(two(Pattern::Yes(s), Pattern::No(a))),
+        1 => Some(two(Pattern::Yes(s), Pattern::No(b))),
+        2 => Some(three(Pattern::No(s), Pattern::Yes(a), Pattern::Yes(b))),
+        _ => None,
+    }
 }
 
 // Operator 5.
-pub fn same(s: u32, a: u32, b: u32, r: u16) -> Named
+pub fn same(s: u32, a: u32, b: u32, r: u16) -> Option<Clause>
     ensures { result ≡ numbered (over BoolType (Same a b) s) r }
 {
-    of_four(
-        three(Pattern::No(s), Pattern::No(a), Pattern::Yes(b)),
-        three(Pattern::No(s), Pattern::Yes(a), Pattern::No(b)),
-        three(Pattern::Yes(s), Pattern::Yes(a), Pattern::Yes(b)),
-        three(Pattern::Yes(s), Pattern::No(a), Pattern::No(b)),
-        r,
-    )
+    match r {
+        0 => Some(three(Pattern::No(s), Pattern::No(a), Pattern::Yes(b))),
+        1 => Some(three(Pattern::No(s), Pattern::Yes(a), Pattern::No(b))),
+        2 => Some(three(Pattern::Yes(s), Pattern::Yes(a), Pattern::Yes(b))),
+        3 => Some(three(Pattern::Yes(s), Pattern::No(a), Pattern::No(b))),
+        _ => None,
+    }
 }
 
 // Operator 8.
-pub fn multiple(s: u32, k: i32, a: u32, r: u16) -> Named
+pub fn multiple(s: u32, k: i32, a: u32, r: u16) -> Option<Clause>
     ensures { result ≡ numbered (over IntType (Multiple k a) s) r }
 {
     equal_to(s, k, a, 0, a, 0, r)
 }
 
 // Operator 9.
-pub fn at_most(s: u32, a: u32, b: u32, r: u16) -> Named
+pub fn at_most(s: u32, a: u32, b: u32, r: u16) -> Option<Clause>
     ensures { result ≡ numbered (over BoolType (AtMost a b) s) r }
 {
-    of_two(
-        two(Pattern::No(s), most(a, b)),
-        two(Pattern::Yes(s), less(b, a)),
-        r,
-    )
-}
-
-// Operator 10.
-pub fn equal(s: u32, a: u32, b: u32, r: u16) -> Named
-    ensures { result ≡ numbered (over BoolType (Equal a b) s) r }
-{
-    of_three(
-        two(Pattern::No(s), most(a, b)),
-        two(Pattern::No(s), most(b, a)),
-        three(Pattern::Yes(s), less(a, b), less(b, a)),
-        r,
-    )
-}
-
-// Operators 14 and 15: s lies to one side of both operands, `p` and `q`, and to the other of one of them, `u` or `v`.
-fn extreme(p: Pattern, q: Pattern, u: Pattern, v: Pattern, r: u16) -> Named
-    ensures { result ≡ numbered (clause1 p ∷ clause1 q ∷ clause2 u v ∷ []) r }
-{
-    of_three(one(p), one(q), two(u, v), r)
-}
-
-// Operator 14.
-pub fn lesser(s: u32, a: u32, b: u32, r: u16) -> Named
-    ensures { result ≡ numbered (over IntType (Lesser a b) s) r }
-{
-    extreme(most(s, a), most(s, b), most(a, s), most(b, s), r)
-}
-
-// Operator 15.
-pub fn greater(s: u32, a: u32, b: u32, r: u16) -> Named
-    ensures { result ≡ numbered (over IntType (Greater a b) s) r }
-{
-    extreme(most(a, s), most(b, s), most(s, a), most(s, b), r)
-}
-
-// Clause r of a list, with a literal put in front.
-fn guarded(p: Pattern, clause: Named) -> Named
-    requires { Has Short clause }
-    ensures { result ≡ guarded_named p clause }
-{
-    match clause {
-        Named::Is(c) => {
-            let first = c.first;
-            let second = c.second;
-            Named::Is(Clause {
-                count: c.count + 1,
-                first: p,
-                second: first,
-                third: second,
-            })
-        }
-        Named::Missing => Named::Missing,
+    match r {
+        0 => Some(two(Pattern::No(s), difference(a, b, 0))),
+        1 => Some(two(Pattern::Yes(s), difference(b, a, -1))),
+        _ => None,
     }
 }
 
+// Operator 10.
+pub fn equal(s: u32, a: u32, b: u32, r: u16) -> Option<Clause>
+    ensures { result ≡ numbered (over BoolType (Equal a b) s) r }
+{
+    match r {
+        0 => Some(two(Pattern::No(s), difference(a, b, 0))),
+        1 => Some(two(Pattern::No(s), difference(b, a, 0))),
+        2 => Some(three(Pattern::Yes(s), difference(a, b, -1), difference(b, a, -1))),
+        _ => None,
+    }
+}
+
+// Operator 14.
+pub fn lesser(s: u32, a: u32, b: u32, r: u16) -> Option<Clause>
+    ensures { result ≡ numbered (over IntType (Lesser a b) s) r }
+{
+    match r {
+        0 => Some(one(difference(s, a, 0))),
+        1 => Some(one(difference(s, b, 0))),
+        2 => Some(two(difference(a, s, 0), difference(b, s, 0))),
+        _ => None,
+    }
+}
+
+// Operator 15.
+pub fn greater(s: u32, a: u32, b: u32, r: u16) -> Option<Clause>
+    ensures { result ≡ numbered (over IntType (Greater a b) s) r }
+{
+    match r {
+        0 => Some(one(difference(a, s, 0))),
+        1 => Some(one(difference(b, s, 0))),
+        2 => Some(two(difference(s, a, 0), difference(s, b, 0))),
+        _ => None,
+    }
+}
+
+// Clause r of a list, with a literal put in front.
+fn guarded(p: Pattern, clause: Option<Clause>) -> Option<Clause>
+    requires { IfSome clause (λ c. c.count ≤ 2) }
+    ensures { result ≡ option_map (guarded p) clause }
+{
+    let c = clause?;
+    Some(Clause {
+        count: c.count + 1,
+        first: p,
+        second: c.first,
+        third: c.second,
+    })
+}
+
 // Operator 11: two clauses of each branch.
-pub fn if_then_else(ty: StreamType, s: u32, a: u32, b: u32, c: u32, r: u16) -> Named
+pub fn if_then_else(ty: StreamType, s: u32, a: u32, b: u32, c: u32, r: u16) -> Option<Clause>
     ensures { result ≡ numbered (over ty (If c a b) s) r }
 {
     if r < 2 {

@@ -10,17 +10,13 @@ use crate::operators::{
 };
 use constraints::var;
 use node::{Equation, StreamType};
-use rules::{Named, Position};
+use rules::{Clause, Position};
 
 // Stream x at one offset lower.
 fn back(offset: u8, x: u16) -> u32
     ensures { result ≡ variable (offset - 1) x }
 {
-    if offset == 0 {
-        x as u32
-    } else {
-        var(offset - 1, x)
-    }
+    var(offset.saturating_sub(1), x)
 }
 
 // Operators 12 and 13: at instant 0 the first operand, later the second; at the step's first offset no clause, unless the second stands in
@@ -33,29 +29,30 @@ fn later(
     first: u32,
     second: u32,
     r: u16,
-) -> Named
+) -> Option<Clause>
     ensures { result ≡ numbered (first_then ty place «enters» s first second) r }
 {
     match place {
         Position::Opening => same_as(ty, s, first, r),
-        Position::Entry => {
-            if enters {
-                same_as(ty, s, second, r)
-            } else {
-                Named::Missing
-            }
-        }
-        Position::Inner => same_as(ty, s, second, r),
+        Position::Entry if !enters => None,
+        Position::Entry | Position::Inner => same_as(ty, s, second, r),
     }
 }
 
 // Clause r, counted from 0, of stream s at an offset.
-pub fn clause_of(ty: StreamType, e: Equation, place: Position, offset: u8, s: u16, r: u16) -> Named
+pub fn clause_of(
+    ty: StreamType,
+    e: Equation,
+    place: Position,
+    offset: u8,
+    s: u16,
+    r: u16,
+) -> Option<Clause>
     ensures { result ≡ numbered (clauses version2 ty e place (variable offset) (variable (offset - 1)) (variable offset s)) r }
 {
     let s = var(offset, s);
     match e {
-        Equation::Input => Named::Missing,
+        Equation::Input => None,
         Equation::Constant(k) => constant(ty, s, k, r),
         Equation::Not(a) => not(s, var(offset, a), r),
         Equation::And(a, b) => and(s, var(offset, a), var(offset, b), r),

@@ -1,41 +1,11 @@
-// Fields read from a slice, where the layout has shown that they lie within.
+// Bytes that a file's layout wants zero.
 ghost use Rattle.std.specs.Prelude.{◌+◌, ◌≤◌, ◌≡◌, length};
-ghost use Rattle.fields.specs.Fields.{u16_at, u32_at, u64_at, zeros_at};
-
-use fields::{u16_of, u32_of, u64_of};
-
-pub fn u16_at(s: &[u8], at: usize) -> u16
-    requires { at + 2 ≤ length s.now }
-    ensures { result ≡ u16_at s.now at }
-{
-    u16_of(s[at], s[at + 1])
-}
-
-pub fn u32_at(s: &[u8], at: usize) -> u32
-    requires { at + 4 ≤ length s.now }
-    ensures { result ≡ u32_at s.now at }
-{
-    u32_of(u16_at(s, at), u16_at(s, at + 2))
-}
-
-pub fn u64_at(s: &[u8], at: usize) -> u64
-    requires { at + 8 ≤ length s.now }
-    ensures { result ≡ u64_at s.now at }
-{
-    u64_of(u32_at(s, at), u32_at(s, at + 4))
-}
+ghost use Rattle.fields.specs.Fields.{zeros_at};
 
 // Whether so many bytes are zero.
 pub fn zeros_at(s: &[u8], at: usize, count: usize) -> bool
     requires { at + count ≤ length s.now }
     ensures { result ≡ zeros_at s.now at count }
 {
-    let mut i = 0;
-    while i < count {
-        if s[at + i] != 0 {
-            return false;
-        }
-        i += 1;
-    }
-    true
+    s[at..at + count].iter().all(|b| *b == 0)
 }

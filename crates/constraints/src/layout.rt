@@ -4,8 +4,8 @@ ghost use Rattle.std.specs.Int.{w64};
 ghost use Rattle.std.proofs.Common.{Fits};
 ghost use Rattle.constraints.specs.Layout.{trailer_of, head_at, term_at, line_head_at, literal_at, multiplier_at};
 
-use crate::bytes::{u16_at, u32_at, u64_at, zeros_at};
-use fields::{i32_of, i64_of};
+use crate::bytes::zeros_at;
+use fields::Field;
 use literals::Literal;
 
 // The last 16 bytes.
@@ -39,7 +39,7 @@ pub struct Term {
     pub coefficient: i64,
 }
 
-// A line but for its literals and multipliers.
+// A line but for its literals and multipliers. The kind is the file's byte: rule 16 refuses one that is none of the five.
 #[derive(Clone, Copy)]
 pub struct LineHead {
     pub kind: u8,
@@ -59,14 +59,15 @@ pub fn trailer_of(file: &[u8]) -> Trailer
         second: file[at + 1],
         version: file[at + 2],
         depth: file[at + 3],
-        constraints: u16_at(file, at + 4),
-        base: u16_at(file, at + 6),
-        step: u16_at(file, at + 8),
-        zeros: u16_at(file, at + 10),
-        distance: u32_at(file, at + 12),
+        constraints: u16::read_at(file, at + 4),
+        base: u16::read_at(file, at + 6),
+        step: u16::read_at(file, at + 8),
+        zeros: u16::read_at(file, at + 10),
+        distance: u32::read_at(file, at + 12),
     }
 }
 
+// Here and below the file and an offset stay two parameters: docs/GUARANTEES.md names these calls with what they ask.
 pub fn constraint_head(file: &[u8], at: usize) -> ConstraintHead
     requires { at + 80 ≤ length file.now }
     ensures { result ≡ head_at file.now at }
@@ -74,7 +75,7 @@ pub fn constraint_head(file: &[u8], at: usize) -> ConstraintHead
     ConstraintHead {
         count: file[at],
         zeros: zeros_at(file, at + 1, 7),
-        bound: i64_of(u64_at(file, at + 8)),
+        bound: i64::read_at(file, at + 8),
     }
 }
 
@@ -85,10 +86,10 @@ pub fn term_at(file: &[u8], at: usize, j: usize) -> Term
 {
     let term = at + 16 + 8 * j;
     Term {
-        stream: u16_at(file, term),
+        stream: u16::read_at(file, term),
         offset: file[term + 2],
         zero: file[term + 3],
-        coefficient: i32_of(u32_at(file, term + 4)) as i64,
+        coefficient: i32::read_at(file, term + 4) as i64,
     }
 }
 
@@ -99,9 +100,9 @@ pub fn line_head(file: &[u8], at: usize) -> LineHead
     LineHead {
         kind: file[at],
         count: file[at + 1],
-        p: u16_at(file, at + 2),
-        q: u16_at(file, at + 4),
-        r: u16_at(file, at + 6),
+        p: u16::read_at(file, at + 2),
+        q: u16::read_at(file, at + 4),
+        r: u16::read_at(file, at + 6),
     }
 }
 
@@ -110,7 +111,7 @@ pub fn literal_at(file: &[u8], at: usize, j: usize) -> Literal
     requires { (at + 80 ≤ length file.now) × (j < 12) }
     ensures { result.0 ≡ literal_at file.now at j }
 {
-    Literal(u16_at(file, at + 8 + 2 * j) as usize)
+    Literal(u16::read_at(file, at + 8 + 2 * j) as usize)
 }
 
 // Multiplier j, 0 to 11.
@@ -118,7 +119,7 @@ pub fn multiplier_at(file: &[u8], at: usize, j: usize) -> u32
     requires { (at + 80 ≤ length file.now) × (j < 12) }
     ensures { result ≡ multiplier_at file.now at j }
 {
-    u32_at(file, at + 32 + 4 * j)
+    u32::read_at(file, at + 32 + 4 * j)
 }
 
 // Where block i stands of those from an offset on: a constraint, or a line.

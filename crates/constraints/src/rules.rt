@@ -29,9 +29,9 @@ pub fn distance_ok(t: Trailer, size: usize) -> bool
     (distance == 16 + 80 * (constraints + base + step)) & (distance <= size)
 }
 
-// What a stream is: 0 a bool, 1 an int, else none.
+// What a stream is: 0 a bool, 1 an int, else none. A number, for the definition `types_of`, which rule 15 and the theorems cite, has one for each index.
 pub fn type_at(types: &[u8], x: usize) -> u8
     ensures { result ≡ types_of types.now x }
 {
-    if x < types.len() { types[x] } else { 2 }
+    types.get(x).copied().unwrap_or(2)
 }

@@ -1,2 +1,3 @@
+pub mod FromBytes
 pub mod TwosComplement
 pub mod Written

@@ -1,7 +1,7 @@
 // Files read into a lent buffer, and the program's arguments, which name them.
 #![tactic(auto)]
 
-ghost use Rattle.std.specs.Prelude.{min, ◌≡◌, drop};
+ghost use Rattle.std.specs.Prelude.{◌≡◌, drop};
 ghost use Rattle.std.specs.Counts.{IsPrefixLen};
 ghost use Rattle.files.specs.Put.{Put};
 
@@ -12,28 +12,19 @@ use std::str;
 
 mod arguments;
 
-pub use arguments::{argument, argument_count};
-
-fn least(a: usize, b: usize) -> usize
-    ensures { result ≡ min a b }
-{
-    if a < b { a } else { b }
-}
+pub use arguments::{argument, argument_count, argument_file, say_argument};
 
 // The bytes at the start of the buffer, as many as it holds, and how many they are.
 fn put(bytes: &[u8], buffer: &mut [u8]) -> usize
     ensures { Put bytes.now buffer.old buffer.new result }
 {
-    let n = least(bytes.len(), buffer.len());
-    let mut i = 0;
-    while i < n {
-        buffer[i] = bytes[i];
-        i += 1;
-    }
+    let n = bytes.len().min(buffer.len());
+    buffer[..n].copy_from_slice(&bytes[..n]);
     n
 }
 
 // Reads until the buffer is full, the input ends or a read fails, and says how many bytes it put at the start of the buffer.
+// How far it goes on is what each read gave, so no `for` fits.
 fn read_full(input: &mut impl Read, buffer: &mut [u8]) -> usize
     ensures { IsPrefixLen result buffer.new }
 {

@@ -9,8 +9,8 @@ use borrow.Author.Tests.{ltb-true, lt-ltb, eq-eqb}
 use lib.Dec.{ltb}
 use lib.IntN.{ℤ, pos}
 use lib.ListN.{replicate}
-use Rattle.answers.specs.declared.Found.TheVariants.{Nothing}
-use Rattle.answers.specs.Answer.{accepted, NodeValues}
+use Rattle.answers.specs.Answer.{accepted}
+use Rattle.answers.specs.declared.NodeValues.{NodeValues}
 use Rattle.node.specs.Inputs.{input_count}
 use Rattle.node.specs.Layout.{streams_of}
 use Rattle.node.specs.Reads.{order_of}
@@ -29,16 +29,17 @@ use Rattle.session.proofs.Judging.{noughts_typed}
 use Rattle.histories.specs.History.{inputs_at, count_ok, bad_input, endless, history_values}
 use Rattle.histories.specs.Theorems.{TypedHistory, SolvesHistory, HistoriesMean}
 use Rattle.histories.proofs.Parts.{counted, is_count, part_count, each, none_of_each}
+use Rattle.std.specs.Prelude.{None}
 
 module _ (file : List ℕ) {node : NodeValues} (e : verdict_of file ≡ accepted node) (count : ℕ) (inputs : List ℤ) where
   abbrev at : ℕ → List ℤ
   at = inputs_at (input_count file) inputs
 
-  passes : TypedHistory file count inputs → (count_ok count (input_count file) inputs ≡ true) × (bad_input file inputs count ≡ Nothing)
+  passes : TypedHistory file count inputs → (count_ok count (input_count file) inputs ≡ true) × (bad_input file inputs count ≡ None)
   unfolding input_fits
   passes h = (counted count (input_count file) inputs h.counted, none_of_each file inputs count (λ t l. typed_inputs file (at t) (h.typed t l)))
 
-  passed : count_ok count (input_count file) inputs ≡ true → bad_input file inputs count ≡ Nothing → TypedHistory file count inputs
+  passed : count_ok count (input_count file) inputs ≡ true → bad_input file inputs count ≡ None → TypedHistory file count inputs
   unfolding input_fits
   passed c b =
       let size = is_count count (input_count file) inputs c in

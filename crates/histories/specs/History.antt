@@ -1,7 +1,5 @@
 -- A history, for tools that look at a short pass as a whole: a count of instants, and all their inputs in turn.
-use Rattle.std.specs.Prelude.{ℕ, zero, suc, ◌*◌, List, Bool, cond, eqb, ltb, ℤ, pos, length, take, drop, replicate}
-use Rattle.answers.specs.declared.Found.{Found}
-use Rattle.answers.specs.declared.Found.TheVariants.{At, Nothing}
+use Rattle.std.specs.Prelude.{ℕ, zero, suc, ◌*◌, List, Bool, cond, eqb, ltb, ℤ, pos, length, take, drop, replicate, None, Option, Some}
 use Rattle.answers.specs.Checks.{lowest}
 use Rattle.node.specs.Inputs.{input_count}
 use Rattle.node.specs.Layout.{streams_of}
@@ -22,16 +20,16 @@ unfoldable pub count_ok : (count m : ℕ) → (inputs : List ℤ) → Bool
 count_ok count m inputs = eqb (length inputs) (count * m)
 
 -- 33: the lowest record whose input at instant t is a bool's and "not 0 or 1"
-abbrev pub bad_at : (file : List ℕ) → (inputs : List ℤ) → (t : ℕ) → Found
+abbrev pub bad_at : (file : List ℕ) → (inputs : List ℤ) → (t : ℕ) → Option ℕ
 bad_at file inputs t = lowest (input_fits file (inputs_at (input_count file) inputs t)) (streams_of file)
 
-abbrev pub earlier : Found → Found → Found
-earlier (At i) later = At i
-earlier Nothing later = later
+abbrev pub earlier : Option ℕ → Option ℕ → Option ℕ
+earlier (Some i) later = Some i
+earlier None later = later
 
 -- .. "of the earliest instant" among the first k
-unfoldable pub bad_input : (file : List ℕ) → (inputs : List ℤ) → (k : ℕ) → Found
-bad_input file inputs zero = Nothing
+unfoldable pub bad_input : (file : List ℕ) → (inputs : List ℤ) → (k : ℕ) → Option ℕ
+bad_input file inputs zero = None
 bad_input file inputs (suc k) = earlier (bad_input file inputs k) (bad_at file inputs k)
 
 -- endless inputs that start with a history of `count` instants. What comes after is 0: no value of the history rests on it

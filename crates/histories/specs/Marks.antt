@@ -12,9 +12,9 @@ is_bool BoolType = true
 is_bool IntType = false
 
 -- each bool input of the first k records is marked
-abbrev pub MarksBools : (file : List ℕ) → (k : ℕ) → (marks : List ℕ) → Type 0
-MarksBools file k marks = (i : ℕ) → i < k → is_input file i ≡ true → is_bool (type_at file i) ≡ true → get_or marks (inputs_below file i) 0 ≡ 1
+abbrev pub MarksBools : (file : List ℕ) → (k : ℕ) → (marks : List Bool) → Type 0
+MarksBools file k marks = (i : ℕ) → i < k → is_input file i ≡ true → is_bool (type_at file i) ≡ true → get_or marks (inputs_below file i) false ≡ true
 
 -- each marked number of the first k is 0 or 1
-abbrev pub MarkedFit : (marks : List ℕ) → (numbers : List ℤ) → (k : ℕ) → Type 0
-MarkedFit marks numbers k = (j : ℕ) → j < k → get_or marks j 0 ≡ 1 → fits_test BoolType (values_in numbers j) ≡ true
+abbrev pub MarkedFit : (marks : List Bool) → (numbers : List ℤ) → (k : ℕ) → Type 0
+MarkedFit marks numbers k = (j : ℕ) → j < k → get_or marks j false ≡ true → fits_test BoolType (values_in numbers j) ≡ true

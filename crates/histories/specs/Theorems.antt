@@ -1,7 +1,7 @@
 -- What is proved of every history, stated without the proofs.
-use Rattle.std.specs.Prelude.{◌≡◌, ℕ, ◌<◌, ◌*◌, true, List, ℤ, length}
-use Rattle.answers.specs.declared.Found.TheVariants.{Nothing}
-use Rattle.answers.specs.Answer.{accepted, NodeValues}
+use Rattle.std.specs.Prelude.{◌≡◌, ℕ, ◌<◌, ◌*◌, true, List, ℤ, length, None}
+use Rattle.answers.specs.Answer.{accepted}
+use Rattle.answers.specs.declared.NodeValues.{NodeValues}
 use Rattle.node.specs.Inputs.{input_count}
 use Rattle.node.specs.Layout.{streams_of}
 use Rattle.node.specs.Verdict.{verdict_of}
@@ -24,8 +24,8 @@ pub record SolvesHistory (file : List ℕ) (count : ℕ) (inputs : List ℤ) (v 
 
 -- 31 and 33 pass just the typed ones; there is a solution on them, and in its instants it is the only one
 pub record HistoryMeans (file : List ℕ) (count : ℕ) (inputs : List ℤ) : Type 0 where
-  pub passes : TypedHistory file count inputs → (count_ok count (input_count file) inputs ≡ true) × (bad_input file inputs count ≡ Nothing)
-  pub passed : count_ok count (input_count file) inputs ≡ true → bad_input file inputs count ≡ Nothing → TypedHistory file count inputs
+  pub passes : TypedHistory file count inputs → (count_ok count (input_count file) inputs ≡ true) × (bad_input file inputs count ≡ None)
+  pub passed : count_ok count (input_count file) inputs ≡ true → bad_input file inputs count ≡ None → TypedHistory file count inputs
   pub solved : TypedHistory file count inputs → SolvesHistory file count inputs (history_values file count inputs)
   pub only : (v : Streams) → SolvesHistory file count inputs v → (t s : ℕ) → t < count → s < streams_of file → v t s ≡ history_values file count inputs t s
 

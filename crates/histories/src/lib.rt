@@ -1,7 +1,7 @@
 // Histories of a short pass: a count of instants, and all their inputs in turn.
 #![tactic(auto)]
 
-ghost use Rattle.std.specs.Prelude.{◌+◌, ◌*◌, ◌≤◌, ◌≡◌, true, cond, ◌&&◌, length};
+ghost use Rattle.std.specs.Prelude.{◌+◌, ◌*◌, ◌≤◌, ◌≡◌, true, ◌&&◌, length};
 ghost use Rattle.answers.specs.Answer.{is_accepted};
 ghost use Rattle.node.specs.Equations.{type_among};
 ghost use Rattle.node.specs.Inputs.{is_input_among, input_count};
@@ -10,22 +10,14 @@ ghost use Rattle.node.specs.Verdict.{verdict_of};
 ghost use Rattle.histories.specs.History.{inputs_at, count_ok, bad_at, bad_input};
 ghost use Rattle.histories.specs.Marks.{is_bool, MarksBools, MarkedFit};
 
-use answers::Found;
 use node::{StreamType, is_input_among, type_among, with_record};
 use streams::{first_bad, is_typed};
 
-// 31, for instants with m inputs each. The product is formed only where it is at most the length: it cannot wrap.
+// 31, for instants with m inputs each.
 pub fn is_counted(count: usize, m: usize, inputs: &[i64]) -> bool
     ensures { result ≡ count_ok count m inputs.now }
 {
-    let length = inputs.len();
-    if m == 0 {
-        return length == 0;
-    }
-    if length / m < count {
-        return false;
-    }
-    length == count * m
+    count.checked_mul(m) == Some(inputs.len())
 }
 
 // The inputs of instant t.
@@ -42,78 +34,60 @@ pub fn inputs_at(inputs: &[i64], m: usize, t: usize) -> &[i64]
 fn is_bool_input(file: &[u8], n: usize, i: usize) -> bool
     ensures { result ≡ (is_input_among file.now n i && is_bool (type_among file.now n i)) }
 {
-    match type_among(file, n, i) {
-        StreamType::Bool => is_input_among(file, n, i),
-        StreamType::Int => false,
-    }
+    is_input_among(file, n, i) & matches!(type_among(file, n, i), StreamType::Bool)
 }
 
-// The mark of an input, with record i: 1 where that is a bool input, else as it was.
-fn mark_of(file: &[u8], n: usize, i: usize, mark: u8) -> u8
-    ensures { result ≡ cond (is_input_among file.now n i && is_bool (type_among file.now n i)) 1 mark }
-{
-    if is_bool_input(file, n, i) { 1 } else { mark }
-}
-
-// For each input by its number, 1 where it is a bool's: so an instant's numbers are looked at without the records.
-fn bools_of(file: &[u8], n: usize) -> [u8; 64]
+// For each input by its number, whether it is a bool's: so an instant's numbers are looked at without the records.
+fn bools_of(file: &[u8], n: usize) -> [bool; 64]
     requires { (n ≡ records_of file.now) × (n ≤ 64) }
     ensures { MarksBools file.now n result }
 {
-    let mut bools = [0u8; 64];
+    let mut bools = [false; 64];
     let mut j = 0;
-    let mut i = 0;
-    while i < n {
-        bools[j] = mark_of(file, n, i, bools[j]);
+    for i in 0..n {
+        bools[j] |= is_bool_input(file, n, i);
         j = with_record(file, n, i, j);
-        i += 1;
     }
     bools
 }
 
 // The marked numbers are 0 or 1.
-fn are_bools(bools: &[u8; 64], numbers: &[i64]) -> bool
+fn are_bools(bools: &[bool; 64], numbers: &[i64]) -> bool
     requires { length numbers.now ≤ 64 }
     ensures { result ≡ true → MarkedFit bools.now numbers.now (length numbers.now) }
 {
-    let mut j = 0;
-    while j < numbers.len() {
-        if (bools[j] == 1) & !is_typed(StreamType::Bool, numbers[j]) {
-            return false;
-        }
-        j += 1;
-    }
-    true
+    bools
+        .iter()
+        .zip(numbers)
+        .all(|(&marked, &x)| !marked | is_typed(StreamType::Bool, x))
 }
 
 // 33, of instant t. The records are gone through only where a marked number is not 0 or 1.
-fn bad_at(file: &[u8], bools: &[u8; 64], inputs: &[i64], m: usize, t: usize) -> Found
+fn bad_at(file: &[u8], bools: &[bool; 64], inputs: &[i64], m: usize, t: usize) -> Option<usize>
     requires { (is_accepted (verdict_of file.now) ≡ true) × (m ≡ input_count file.now) × (m ≤ 64) × (m * t + m ≤ length inputs.now) × MarksBools file.now (streams_of file.now) bools.now }
     ensures { result ≡ bad_at file.now inputs.now t }
 {
     let numbers = inputs_at(inputs, m, t);
     if are_bools(bools, numbers) {
-        return Found::Nothing;
+        return None;
     }
     first_bad(file, numbers)
 }
 
 // 33, of the earliest instant of an accepted file of n streams, m of them inputs. A history without inputs has none to look at, however
 // long it is.
-pub fn bad_input(file: &[u8], n: usize, count: usize, inputs: &[i64], m: usize) -> Found
+pub fn bad_input(file: &[u8], n: usize, count: usize, inputs: &[i64], m: usize) -> Option<usize>
     requires { (is_accepted (verdict_of file.now) ≡ true) × (n ≡ streams_of file.now) × (m ≡ input_count file.now) × (length inputs.now ≡ count * m) }
     ensures { result ≡ bad_input file.now inputs.now count }
 {
     if m == 0 {
-        return Found::Nothing;
+        return None;
     }
     let bools = bools_of(file, n);
-    let mut t = 0;
-    while t < count {
-        match bad_at(file, &bools, inputs, m, t) {
-            Found::At(i) => return Found::At(i),
-            Found::Nothing => t += 1,
+    for t in 0..count {
+        if let Some(i) = bad_at(file, &bools, inputs, m, t) {
+            return Some(i);
         }
     }
-    Found::Nothing
+    None
 }

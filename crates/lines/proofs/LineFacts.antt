@@ -101,6 +101,9 @@ module _ (node cert : List ℕ) (f : Frame) (ch : Checking node cert f) where
       pub line_is : line_with cert at h ≡ line_of cert i
       line_is = ap (line_with cert at) g ∙ line_here
 
+      pub kind_is : (line_of cert i).head.kind ≡ h.kind
+      kind_is = ap (λ (line : Line). line.head.kind) (sym line_is)
+
       pub shape_is : (types : List ℕ) → ((x : ℕ) → types_of types x ≡ types_of_node node x) → shape_ok (types_of types) f.depth f.constraints (line_with cert at h) ≡ shape_passes node cert i
       unfolding shape_passes
       shape_is types are_types =

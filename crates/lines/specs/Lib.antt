@@ -2,3 +2,4 @@ pub mod Checking
 pub mod Constants
 pub mod Frame
 pub mod Slots
+pub mod Faults

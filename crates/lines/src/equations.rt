@@ -13,7 +13,7 @@ use clauses::clause_of;
 use constraints::line_head;
 use matching::is_clause;
 use node::{equation_among, type_among};
-use rules::{Named, Position};
+use rules::Position;
 
 // Where offset q of a part stands, whose first offset stands at `opening`.
 fn position_of(opening: Position, q: u16) -> Position
@@ -52,7 +52,7 @@ pub fn equation_ok(
         h.p,
         h.r,
     ) {
-        Named::Is(c) => is_clause(cert, f.start, f.constraints, at, c),
-        Named::Missing => false,
+        Some(c) => is_clause(cert, f.start, f.constraints, at, c),
+        None => false,
     }
 }

@@ -1,5 +1,5 @@
 // The rules of one line, 16 before its kind's.
-ghost use Rattle.std.specs.Prelude.{ℕ, ◌+◌, ◌*◌, ◌<◌, ◌≤◌, ◌≡◌, true, cond, pos, length, replicate};
+ghost use Rattle.std.specs.Prelude.{ℕ, ◌+◌, ◌*◌, ◌<◌, ◌≤◌, ◌≡◌, true, pos, length, replicate, OnOk};
 ghost use Rattle.node.specs.Equations.{type_at, equation_at};
 ghost use Rattle.constraints.specs.Layout.{line_head_at, line_at, constraints_from, line_with};
 ghost use Rattle.constraints.specs.Rules.{types_of};
@@ -8,6 +8,7 @@ ghost use Rattle.rules.specs.Lines.{equation_in};
 ghost use Rattle.rules.specs.Verdict.{types_of_node, shape_passes, own_fault, line_fault};
 ghost use Rattle.rules.specs.Versions.{version2};
 ghost use Rattle.lines.specs.Checking.{Checking};
+ghost use Rattle.lines.specs.Faults.{fault_at};
 ghost use Rattle.lines.specs.Frame.{lines_at, part_in};
 
 use crate::equations::equation_ok;
@@ -16,6 +17,7 @@ use crate::joins::join_ok;
 use crate::property::{base_property_ok, step_property_ok};
 use crate::refusals;
 use crate::shape::shape_ok;
+use answers::{Place, Refusal, check};
 use arithmetic::{arithmetic_ok, cut_ok};
 use constraints::{LineHead, block_at, line_head};
 use rules::Position;
@@ -57,14 +59,7 @@ fn join_passes(cert: &[u8], f: Frame, i: usize) -> bool
     }
 }
 
-// A rule's number where its test fails, else 0.
-fn unless(ok: bool, number: usize) -> usize
-    ensures { result ≡ cond «ok» 0 number }
-{
-    if ok { 0 } else { number }
-}
-
-// The number of the rule of line i's kind, where the line breaks it, else 0; rule 16 has passed it.
+// The rule of line i's kind; rule 16 has passed it.
 fn own_fault(
     sums: &mut [i64],
     node: &[u8],
@@ -73,36 +68,37 @@ fn own_fault(
     at: usize,
     h: LineHead,
     i: usize,
-) -> usize
+) -> Result<(), Refusal>
     requires checking { Checking node.now cert.now f × (at ≡ f.lines + 80 * i) × (h ≡ line_head_at cert.now at) }
     requires i_value { (shape_passes node.now cert.now i ≡ true) × (i < f.base + f.step) }
     requires sums_value { sums.old ≡ replicate 576 (pos 0) }
-    ensures answer { result ≡ own_fault version2 node.now cert.now i }
-    ensures cleared { result ≡ 0 → sums.new ≡ replicate 576 (pos 0) }
+    ensures answer { result ≡ fault_at i (own_fault version2 node.now cert.now i) }
+    ensures cleared { OnOk result (sums.new ≡ replicate 576 (pos 0)) }
 {
-    let kind = h.kind;
-    if kind == 1 {
-        let ok = equation_passes(node, cert, f, at, i);
-        return unless(ok, refusals::EQUATION);
+    let place = Place::Line(i);
+    match h.kind {
+        1 => check(
+            equation_passes(node, cert, f, at, i),
+            refusals::EQUATION,
+            place,
+        ),
+        2 => check(
+            property_passes(cert, f, at, h, i),
+            refusals::PROPERTY,
+            place,
+        ),
+        3 => check(join_passes(cert, f, i), refusals::JOIN, place),
+        4 => check(
+            arithmetic_ok(sums, cert, f.start, at, h.count as usize),
+            refusals::ARITHMETIC,
+            place,
+        ),
+        _ => check(cut_ok(sums, cert, f.start, at, h), refusals::CUT, place),
     }
-    if kind == 2 {
-        let ok = property_passes(cert, f, at, h, i);
-        return unless(ok, refusals::PROPERTY);
-    }
-    if kind == 3 {
-        let ok = join_passes(cert, f, i);
-        return unless(ok, refusals::JOIN);
-    }
-    if kind == 4 {
-        let ok = arithmetic_ok(sums, cert, f.start, at, h.count as usize);
-        return unless(ok, refusals::ARITHMETIC);
-    }
-    let ok = cut_ok(sums, cert, f.start, at, h);
-    unless(ok, refusals::CUT)
 }
 
-// The number of the first rule that line i breaks, 16 before its kind's, whatever the lines before it hold; 0 where it breaks none.
-// The sums are lent at zero, and such a line leaves them so.
+// The first rule that line i breaks, 16 before its kind's, whatever the lines before it hold. The sums are lent at zero, and a line that
+// breaks none leaves them so.
 pub fn line_fault(
     sums: &mut [i64],
     node: &[u8],
@@ -110,17 +106,19 @@ pub fn line_fault(
     types: &[u8],
     f: Frame,
     i: usize,
-) -> usize
+) -> Result<(), Refusal>
     requires checking { Checking node.now cert.now f × ((x : ℕ) → types_of types.now x ≡ types_of_node node.now x) }
     requires i_bound { i < f.base + f.step }
     requires sums_value { sums.old ≡ replicate 576 (pos 0) }
-    ensures answer { result ≡ line_fault version2 node.now cert.now i }
-    ensures cleared { result ≡ 0 → sums.new ≡ replicate 576 (pos 0) }
+    ensures answer { result ≡ fault_at i (line_fault version2 node.now cert.now i) }
+    ensures cleared { OnOk result (sums.new ≡ replicate 576 (pos 0)) }
 {
     let at = block_at(f.lines, i);
     let h = line_head(cert, at);
-    if !shape_ok(cert, at, h, types, f.depth, f.constraints) {
-        return refusals::SHAPE;
-    }
+    check(
+        shape_ok(cert, at, h, types, f.depth, f.constraints),
+        refusals::SHAPE,
+        Place::Line(i),
+    )?;
     own_fault(sums, node, cert, f, at, h, i)
 }

@@ -15,7 +15,7 @@ fn listed_at(file: &[u8], at: usize) -> usize
     ensures { result ≡ listed_in (line_at file.now at) }
 {
     let count = line_head(file, at).count as usize;
-    if count < 12 { count } else { 12 }
+    count.min(12)
 }
 
 // Literal r stands in the line at p and its opposite in the line at q, and what is left of both stands in the line at an offset.

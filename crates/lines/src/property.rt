@@ -12,15 +12,10 @@ fn are_not_property(file: &[u8], at: usize, n: usize, prop: u16) -> bool
     requires { (at + 80 ≤ length file.now) × (n ≤ 9) }
     ensures { result ≡ every (not_property_at prop (literal_at file.now at)) n }
 {
-    let mut j = 0;
-    while j < n {
+    (0..n).all(|j| {
         let not_prop = Literal::negative(var(j as u8, prop));
-        if literal_at(file, at, j).0 != not_prop.0 {
-            return false;
-        }
-        j += 1;
-    }
-    true
+        literal_at(file, at, j).0 == not_prop.0
+    })
 }
 
 // A property line of the base, at depth k: it covers offset k too.

@@ -48,14 +48,7 @@ fn are_listed(file: &[u8], at: usize, h: LineHead, types: &[u8], k: u8, m: usize
     ensures { result ≡ every (listed_ok (types_of types.now) k m h.kind (literal_at file.now at) (multiplier_at file.now at)) h.count }
 {
     let count = h.count as usize;
-    let mut j = 0;
-    while j < count {
-        if !is_listed(file, at, h.kind, types, k, m, j) {
-            return false;
-        }
-        j += 1;
-    }
-    true
+    (0..count).all(|j| is_listed(file, at, h.kind, types, k, m, j))
 }
 
 // The literals and multipliers from `count` on are zero. All twelve are looked at, since a loop that never ends early takes
@@ -65,12 +58,10 @@ fn are_unused(file: &[u8], at: usize, count: usize) -> bool
     ensures { result ≡ every (unused_ok count (literal_at file.now at) (multiplier_at file.now at)) 12 }
 {
     let mut clear = true;
-    let mut j = 0;
-    while j < 12 {
+    for j in 0..12 {
         let literal = literal_at(file, at, j);
         let multiplier = multiplier_at(file, at, j);
-        clear = clear & ((j < count) | ((literal.0 == 0) & (multiplier == 0)));
-        j += 1;
+        clear &= (j < count) | ((literal.0 == 0) & (multiplier == 0));
     }
     clear
 }

@@ -8,12 +8,9 @@ use native.Mathlib.Omega.{arith}
 use borrow.Author.Tests.{ltb-true, leb-true, lt-ltb, le-leb}
 use lib.Dec.{leb, ltb}
 use lib.IntN.{ℤ}
-use lib.ListN.{replicate}
-use Rattle.integers.specs.declared.Checked.{Checked}
-use Rattle.integers.specs.declared.Checked.TheVariants.{Value, Outside}
-use Rattle.answers.specs.declared.Found.TheVariants.{At, Nothing}
 use Rattle.answers.specs.declared.Place.TheVariants.{File, Record as AtRecord}
-use Rattle.answers.specs.Answer.{Answer, accepted, refused, NodeValues}
+use Rattle.answers.specs.Answer.{Answer, accepted, refused}
+use Rattle.answers.specs.declared.NodeValues.{NodeValues}
 use Rattle.answers.specs.Checks.{check}
 use Rattle.answers.proofs.Tests.{both_true}
 use Rattle.node.specs.Equations.{equation_at}
@@ -23,10 +20,12 @@ use Rattle.node.specs.Verdict.{verdict_of}
 use Rattle.streams.specs.Solutions.{Streams}
 use Rattle.histories.specs.History.{count_ok, bad_input, history_values}
 use Rattle.look_up.specs.Visited.{VisitedInside, VisitedOutside, inside_in}
-use Rattle.look_up.specs.LookUp.{is_in, value_answer, history_answer}
-use Rattle.look_up.specs.Looking.{handed, LookedUp, HoldsHistory, ToldOf}
+use Rattle.look_up.specs.LookUp.{is_in, value_answer, history_answer, look_up_of}
+use Rattle.look_up.specs.Looking.{LookedUp, HoldsHistory, ToldOf}
 use Rattle.look_up.proofs.Rows.{values_obey, history_table}
 use Rattle.look_up.proofs.Within.{inside_in_is, all_inside_in}
+use Rattle.std.specs.Option.{ok_or}
+use Rattle.std.specs.Prelude.{None, Option, Some}
 
 -- ---- 65
 
@@ -47,12 +46,9 @@ module _ (n count stream instant : ℕ) where
   unfolding is_in
   is_in_is i = rw (le-leb _ _ i.short, lt-ltb _ _ i.stream_in, lt-ltb _ _ i.instant_in) refl
 
-  -- the two ways out of its test, where n is the file's count
+  -- where it passes, and n is the file's count
   pub passed : {k : ℕ} {a rest : Answer ℤ} → n ≡ k → is_in n count stream instant ≡ true → a ≡ rest → a ≡ check (is_in k count stream instant) 65 File rest
   passed size e p = rw (← size, e) p
-
-  pub not_in : {k : ℕ} (rest : Answer ℤ) → n ≡ k → is_in n count stream instant ≡ false → refused 65 File ≡ check (is_in k count stream instant) 65 File rest
-  not_in rest size e = rw (← size, e) refl
 
 -- ---- 34 or the value
 
@@ -72,29 +68,22 @@ module _ (file : List ℕ) {node : NodeValues} (e : verdict_of file ≡ accepted
 -- ---- what the recursion says of a history
 
 module _ (file : List ℕ) {node : NodeValues} (e : verdict_of file ≡ accepted node) (count : ℕ) (inputs : List ℤ) (stream instant : ℕ) where
-  pub told_by : In (streams_of file) count stream instant → {values values' : List ℤ} {known' : List ℕ} {b : Bool} → HoldsHistory file count inputs (streams_of file) values → LookedUp file instant stream values (replicate 1024 0) values' known' b → ToldOf file count inputs stream instant (handed values' instant stream b)
-  told_by i {values} holds l =
-      record { says = (l.shows (history_values file count inputs) count (values_obey file e count inputs) i.instant_in i.short (history_table file e count inputs values holds)).1 }
+  pub told_by : In (streams_of file) count stream instant → {table table' : List (Option ℤ)} {r : Option ℤ} → HoldsHistory file count inputs (streams_of file) table → LookedUp file instant stream table table' r → ToldOf file count inputs stream instant r
+  told_by i {table} holds l =
+      record { says = (l.shows (history_values file count inputs) count (values_obey file e count inputs) i.instant_in i.short (history_table file e count inputs table holds)).1 }
 
-  pub value_told : (r : Checked) (x : ℤ) → r ≡ Value x → ToldOf file count inputs stream instant r → accepted x ≡ value_answer file (history_values file count inputs) stream instant
-  value_told (Value y) x p t = let z : y ≡ x = cc in ap accepted (sym z ∙ t.says.0) ∙ sym (value_is file e (history_values file count inputs) stream instant t.says.1)
-  value_told Outside x p t = absurd (let z : ◌≡◌ {A = ℕ} 0 1 = cc in omega arith)
-
-  pub outside_told : In (streams_of file) count stream instant → (r : Checked) → r ≡ Outside → ToldOf file count inputs stream instant r → refused 34 (AtRecord stream) ≡ value_answer file (history_values file count inputs) stream instant
-  outside_told i (Value y) p t = absurd (let z : ◌≡◌ {A = ℕ} 0 1 = cc in omega arith)
-  outside_told i Outside p t = sym (outside_is file e (history_values file count inputs) stream instant (omega (arith, i.short, i.instant_in)) i.stream_in t.says)
+  pub answer_told : In (streams_of file) count stream instant → (r : Option ℤ) → ToldOf file count inputs stream instant r → ok_or r (record { number = 34; place = AtRecord stream }) ≡ value_answer file (history_values file count inputs) stream instant
+  answer_told i (Some y) t = ap accepted t.says.0 ∙ sym (value_is file e (history_values file count inputs) stream instant t.says.1)
+  answer_told i None t = sym (outside_is file e (history_values file count inputs) stream instant (omega (arith, i.short, i.instant_in)) i.stream_in t.says)
 
 -- ---- 31 and 33
 
 module _ (file : List ℕ) (count : ℕ) (inputs : List ℤ) (stream instant : ℕ) where
-  pub miscounted : count_ok count (input_count file) inputs ≡ false → history_answer file count inputs stream instant ≡ refused 31 File
-  unfolding history_answer
-  miscounted p = rw p refl
-
-  pub mistyped : (i : ℕ) → count_ok count (input_count file) inputs ≡ true → bad_input file inputs count ≡ At i → history_answer file count inputs stream instant ≡ refused 33 (AtRecord i)
-  unfolding history_answer
-  mistyped i p q = rw (p, q) refl
-
-  pub well_typed : count_ok count (input_count file) inputs ≡ true → bad_input file inputs count ≡ Nothing → history_answer file count inputs stream instant ≡ check (is_in (streams_of file) count stream instant) 65 File (value_answer file (history_values file count inputs) stream instant)
+  pub well_typed : count_ok count (input_count file) inputs ≡ true → bad_input file inputs count ≡ None → history_answer file count inputs stream instant ≡ check (is_in (streams_of file) count stream instant) 65 File (value_answer file (history_values file count inputs) stream instant)
   unfolding history_answer
   well_typed p q = rw (p, q) refl
+
+  -- .. of an accepted file
+  pub rest_is : {node : NodeValues} → verdict_of file ≡ accepted node → count_ok count (input_count file) inputs ≡ true → bad_input file inputs count ≡ None → look_up_of file count inputs stream instant ≡ check (is_in (streams_of file) count stream instant) 65 File (value_answer file (history_values file count inputs) stream instant)
+  unfolding look_up_of
+  rest_is e p q = rw e (well_typed p q)

@@ -5,21 +5,19 @@ use mathlib.Core.Bool.{Bool, true, false, cond}
 use Prim.Native.Nat.{ℕ, zero, suc, ◌-◌, ◌<◌}
 use native.Mathlib.Omega.{arith}
 use lib.IntN.{ℤ}
-use Rattle.integers.specs.declared.Checked.{Checked}
-use Rattle.integers.specs.declared.Checked.TheVariants.{Value, Outside}
 use Rattle.integers.specs.Range.{inside, checked_of}
 use Rattle.node.specs.declared.equation.Equation.{Equation}
 use Rattle.node.specs.declared.equation.Equation.TheVariants.{Input, Constant, Not, And, Or, Same, Sum, Difference, Multiple, AtMost, Equal, If, Arrow, FollowedBy, Lesser, Greater}
 use Rattle.streams.specs.Meaning.{meaning}
 use Rattle.streams.specs.Solutions.{Streams, is_first, before}
 use Rattle.streams.specs.Values.{truth}
-use Rattle.look_up.specs.declared.visits.Visit.TheVariants.{At}
-use Rattle.look_up.specs.Visits.{first_visit, second_visit, To, value_at}
+use Rattle.look_up.specs.Visits.{first_visit, second_visit, visit_at, To, value_at}
 use Rattle.look_up.specs.Visited.{Equations, one, two, Visited, here, by_one, by_two, VisitedInside}
 use Rattle.look_up.specs.Looking.{Outcome, OutcomeTo, over, Obeys}
+use Rattle.std.specs.Prelude.{None, Option, Some}
 
 module _ (v : Streams) (g x y : ℤ) where
-  taken : (t a b : ℕ) (h : Bool) → y ≡ value_at v (cond h (At t a) (At t b)) → cond h y y ≡ cond h (v t a) (v t b)
+  taken : (t a b : ℕ) (h : Bool) → y ≡ value_at v (cond h (Some (visit_at t a)) (Some (visit_at t b))) → cond h y y ≡ cond h (v t a) (v t b)
   taken t a b true q = q
   taken t a b false q = q
 
@@ -46,19 +44,19 @@ module _ (v : Streams) (g x y : ℤ) where
 
 -- the visits of 12 and 13, by the test of the first instant
 module _ (a b : ℕ) where
-  pub arrow_first : (t : ℕ) → t ≡ 0 → At t a ≡ first_visit (Arrow a b) t
+  pub arrow_first : (t : ℕ) → t ≡ 0 → Some (visit_at t a) ≡ first_visit (Arrow a b) t
   arrow_first zero e = refl
   arrow_first (suc t) e = absurd (omega (arith, e))
 
-  pub arrow_later : (t : ℕ) → (t ≡ 0 → ⊥) → At t b ≡ first_visit (Arrow a b) t
+  pub arrow_later : (t : ℕ) → (t ≡ 0 → ⊥) → Some (visit_at t b) ≡ first_visit (Arrow a b) t
   arrow_later zero n = absurd (n refl)
   arrow_later (suc t) n = refl
 
-  pub followed_first : (t : ℕ) → t ≡ 0 → At t a ≡ first_visit (FollowedBy a b) t
+  pub followed_first : (t : ℕ) → t ≡ 0 → Some (visit_at t a) ≡ first_visit (FollowedBy a b) t
   followed_first zero e = refl
   followed_first (suc t) e = absurd (omega (arith, e))
 
-  pub followed_later : (t : ℕ) → (t ≡ 0 → ⊥) → At (t - 1) b ≡ first_visit (FollowedBy a b) t
+  pub followed_later : (t : ℕ) → (t ≡ 0 → ⊥) → Some (visit_at (t - 1) b) ≡ first_visit (FollowedBy a b) t
   followed_later zero n = absurd (n refl)
   followed_later (suc t) n = let e : suc t - 1 ≡ t = omega arith in rw e refl
 
@@ -87,26 +85,26 @@ module _ (es : Equations) (v : Streams) (t s : ℕ) where
   all_inside_is h a b j r (by_one to w) = a _ _ to j r w
   all_inside_is h a b j r (by_two to w) = b _ _ to j r w
 
-  pub outside_one : OutcomeTo es v (one es t s) Outside → Outcome es v t s Outside
+  pub outside_one : OutcomeTo es v (one es t s) None → Outcome es v t s None
   outside_one o = record { instant = o.some.instant; stream = o.some.stream; visited = by_one o.led o.some.visited; leaves = o.some.leaves }
 
-  pub outside_two : OutcomeTo es v (two es v t s) Outside → Outcome es v t s Outside
+  pub outside_two : OutcomeTo es v (two es v t s) None → Outcome es v t s None
   outside_two o = record { instant = o.some.instant; stream = o.some.stream; visited = by_two o.led o.some.visited; leaves = o.some.leaves }
 
-  pub value_is : (n : ℕ) → Obeys es n v → s < n → (g x y : ℤ) → (es s ≡ Input → g ≡ v t s) → OutcomeTo es v (one es t s) (Value x) → OutcomeTo es v (two es v t s) (Value y) → over (es s) g x y ≡ v t s
+  pub value_is : (n : ℕ) → Obeys es n v → s < n → (g x y : ℤ) → (es s ≡ Input → g ≡ v t s) → OutcomeTo es v (one es t s) (Some x) → OutcomeTo es v (two es v t s) (Some y) → over (es s) g x y ≡ v t s
   unfolding one two
   value_is n obeys l g x y same a b =
       over_visits v g x y (es s) t a.0 b.0
       ∙ given_same (es s) g (v t s) (is_first t) (before v t) (v t) same
       ∙ sym (obeys t s l)
 
-  pub answered : (n : ℕ) → Obeys es n v → s < n → (g x y : ℤ) → (es s ≡ Input → g ≡ v t s) → OutcomeTo es v (one es t s) (Value x) → OutcomeTo es v (two es v t s) (Value y)
-      → (z : Checked) → z ≡ checked_of (over (es s) g x y) → Outcome es v t s z
+  pub answered : (n : ℕ) → Obeys es n v → s < n → (g x y : ℤ) → (es s ≡ Input → g ≡ v t s) → OutcomeTo es v (one es t s) (Some x) → OutcomeTo es v (two es v t s) (Some y)
+      → (z : Option ℤ) → z ≡ checked_of (over (es s) g x y) → Outcome es v t s z
   unfolding checked_of
   answered n obeys l g x y same a b z e =
       subst (Outcome es v t s) (sym (e ∙ ap checked_of (value_is n obeys l g x y same a b))) (go (inside (v t s)) refl)
     where
-      go : (h : Bool) → inside (v t s) ≡ h → Outcome es v t s (cond h (Value (v t s)) Outside)
+      go : (h : Bool) → inside (v t s) ≡ h → Outcome es v t s (cond h (Some (v t s)) None)
       go true h = (refl, all_inside_is h a.1 b.1)
       go false h = record { instant = t; stream = s; visited = here; leaves = h }
 

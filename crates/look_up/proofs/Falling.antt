@@ -5,7 +5,9 @@ use mathlib.Core.Bool.{Bool, true, false, true≢false}
 use mathlib.Core.List.{List}
 use Prim.Native.Nat.{ℕ, zero, suc, ◌<◌, ◌≤◌}
 use native.Mathlib.Omega.{arith}
-use Rattle.answers.specs.Answer.{accepted, NodeValues}
+use Rattle.answers.specs.Answer.{accepted}
+use Rattle.answers.specs.declared.NodeValues.{NodeValues}
+use Rattle.std.specs.Prelude.{None, Option, Some}
 use Rattle.node.specs.declared.equation.Equation.{Equation}
 use Rattle.node.specs.declared.equation.Equation.TheVariants.{Input, Constant, Not, And, Or, Same, Sum, Difference, Multiple, AtMost, Equal, If, Arrow, FollowedBy, Lesser, Greater}
 use Rattle.node.specs.Equations.{equation_at}
@@ -19,13 +21,12 @@ use Rattle.node.proofs.WellFormedness.{accepted_well_formed}
 use Rattle.streams.specs.Nodes.{node_of}
 use Rattle.streams.proofs.Orders.{Settled, ranked_by_place}
 use Rattle.look_up.specs.declared.visits.Visit.{Visit}
-use Rattle.look_up.specs.declared.visits.Visit.TheVariants.{Nothing, At}
-use Rattle.look_up.specs.Visits.{first_visit, second_visit}
+use Rattle.look_up.specs.Visits.{first_visit, second_visit, visit_at}
 use Rattle.look_up.specs.Theorems.{AllOperands}
 use Rattle.look_up.specs.Looking.{VisitIn, VisitEarly, look_rank, visit_rank}
 
 -- the visit is of a stream of the n, at instant t or before, and its number is lower
-pub record Falls (file : List ℕ) (n t s : ℕ) (visit : Visit) : Type 0 where
+pub record Falls (file : List ℕ) (n t s : ℕ) (visit : Option Visit) : Type 0 where
   pub within : VisitIn n visit
   pub early : VisitEarly visit (suc t)
   pub rank : visit_rank file visit < look_rank file t s
@@ -34,13 +35,13 @@ module _ (file : List ℕ) (n s : ℕ) (small : n ≤ 64) (has : (i : ℕ) → i
   abbrev Good : Read → Type 0
   Good = Settled n (place_in (order_of file)) s
 
-  nothing : (t : ℕ) → Falls file n t s Nothing
+  nothing : (t : ℕ) → Falls file n t s None
   nothing t = record { within = tt; early = tt; rank = omega arith }
 
-  at_now : (t : ℕ) (r : Read) → t < 16 → r.now ≡ true → Good r → Falls file n t s (At t r.stream)
+  at_now : (t : ℕ) (r : Read) → t < 16 → r.now ≡ true → Good r → Falls file n t s (Some (visit_at t r.stream))
   at_now t r early now ok = let l = ok.lower now in record { within = (early, ok.below); early = omega arith; rank = omega arith }
 
-  at_before : (t : ℕ) (r : Read) → suc t < 16 → Good r → Falls file n (suc t) s (At t r.stream)
+  at_before : (t : ℕ) (r : Read) → suc t < 16 → Good r → Falls file n (suc t) s (Some (visit_at t r.stream))
   at_before t r early ok = let l = has r.stream ok.below in record { within = (omega arith, ok.below); early = omega arith; rank = omega arith }
 
   first_falls : (e : Equation) (t : ℕ) → t < 16 → All Good (reads e) → Falls file n t s (first_visit e t)

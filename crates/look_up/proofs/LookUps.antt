@@ -10,7 +10,9 @@ use lib.ListN.{length}
 use Rattle.integers.specs.Range.{inside}
 use Rattle.answers.specs.declared.Place.{Place}
 use Rattle.answers.specs.declared.Place.TheVariants.{File, Record as AtRecord}
-use Rattle.answers.specs.Answer.{Answer, accepted, refused, NodeValues}
+use Rattle.answers.specs.Answer.{Answer, accepted, refused}
+use Rattle.answers.specs.declared.NodeValues.{NodeValues}
+use Rattle.answers.specs.declared.Refusal.{Refusal}
 use Rattle.answers.specs.Checks.{lowest, and_then}
 use Rattle.answers.proofs.Checks.{by_check, by_check_all}
 use Rattle.node.specs.Equations.{equation_at}
@@ -29,9 +31,12 @@ use Rattle.look_up.specs.LookUp.{is_in, value_answer, history_answer, look_up_of
 use Rattle.look_up.specs.Theorems.{Asked, LooksUp, LookUpsExact}
 use Rattle.look_up.proofs.Answers.{In, in_history, is_in_is, value_is, outside_is, well_typed}
 use Rattle.look_up.proofs.Within.{inside_or_outside, visited_same, all_inside_same, within}
+use Rattle.std.specs.Prelude.{Err, Ok}
 
 refusal_number : {A : Type 0} (n m : ℕ) (p q : Place) → ◌≡◌ {A = Answer A} (refused n p) (refused m q) → n ≡ m
-refusal_number n m p q e = cc
+refusal_number n m p q e =
+    let same : ◌≡◌ {A = Refusal} (record { number = n; place = p }) (record { number = m; place = q }) = cc in
+    ap (λ (r : Refusal). r.number) same
 
 -- no node file is refused with 34
 module _ (file : List ℕ) where
@@ -146,8 +151,8 @@ module _ (file : List ℕ) (count : ℕ) (inputs : List ℤ) (stream instant : �
   answer_asked = go (verdict_of file) refl
     where
       go : (a : Answer NodeValues) → verdict_of file ≡ a → Good (and_then a (history_answer file count inputs stream instant))
-      go (accepted node) e = history_asked e
-      go (refused number place) e = refusal number place (λ f. not_34 file number place e f)
+      go (Ok node) e = history_asked e
+      go (Err r) e = refusal r.number r.place (λ f. not_34 file r.number r.place e f)
 
 pub look_ups_exact : LookUpsExact
 look_ups_exact =

@@ -10,17 +10,18 @@ use native.Mathlib.Nat.{le_refl, le_of_suc-le-suc, lt_of_le_of_lt}
 use native.Mathlib.Omega.{arith}
 use lib.IntN.{ℤ}
 use Rattle.integers.specs.Range.{inside}
-use Rattle.answers.specs.Answer.{accepted, NodeValues}
+use Rattle.answers.specs.Answer.{accepted}
+use Rattle.answers.specs.declared.NodeValues.{NodeValues}
 use Rattle.answers.proofs.Tests.{both_true}
 use Rattle.node.specs.Equations.{equation_at}
 use Rattle.node.specs.Layout.{streams_of}
 use Rattle.node.specs.Order.{place_in}
 use Rattle.node.specs.Reads.{order_of}
 use Rattle.node.specs.Verdict.{verdict_of}
+use Rattle.std.specs.Prelude.{None, Option, Some}
 use Rattle.streams.specs.Solutions.{Streams}
 use Rattle.streams.specs.Values.{truth}
 use Rattle.look_up.specs.declared.visits.Visit.{Visit}
-use Rattle.look_up.specs.declared.visits.Visit.TheVariants.{Nothing, At}
 use Rattle.look_up.specs.Visits.{second_visit, To, value_at}
 use Rattle.look_up.specs.Visited.{Equations, one, two, Visited, here, by_one, by_two, VisitedInside, VisitedOutside, of_visit, inside_in}
 use Rattle.look_up.proofs.Falling.{Falls, few, places, one_falls, two_falls}
@@ -33,32 +34,32 @@ pub record Lower (file : List ℕ) (t s j r : ℕ) : Type 0 where
   pub instant : j ≤ t
   pub stream : r < streams_of file
 
-led_lower : (file : List ℕ) (o : Visit) (t s j r : ℕ) → Falls file (streams_of file) t s o → To o j r → Lower file t s j r
-led_lower file Nothing t s j r f to = absurd to
-led_lower file (At i a) t s j r f to =
+led_lower : (file : List ℕ) (o : Option Visit) (t s j r : ℕ) → Falls file (streams_of file) t s o → To o j r → Lower file t s j r
+led_lower file None t s j r f to = absurd to
+led_lower file (Some o) t s j r f to =
     subst (λ (q : ℕ). Lower file t s q r) (sym to.0)
-    (subst (λ (q : ℕ). Lower file t s i q) (sym to.1)
+    (subst (λ (q : ℕ). Lower file t s o.instant q) (sym to.1)
     (let l = f.rank in record { rank = omega arith; instant = le_of_suc-le-suc f.early; stream = f.within.1 }))
 
 -- a test of what a visit leads to
-of_visit_is : (o : Visit) (test : ℕ → ℕ → Bool) → ((j r : ℕ) → To o j r → test j r ≡ true) → of_visit o test ≡ true
-of_visit_is Nothing test h = refl
-of_visit_is (At i a) test h = h i a (refl, refl)
+of_visit_is : (o : Option Visit) (test : ℕ → ℕ → Bool) → ((j r : ℕ) → To o j r → test j r ≡ true) → of_visit o test ≡ true
+of_visit_is None test h = refl
+of_visit_is (Some o) test h = h o.instant o.stream (refl, refl)
 
-by_visit : (o : Visit) (test : ℕ → ℕ → Bool) → of_visit o test ≡ true → (j r : ℕ) → To o j r → test j r ≡ true
-by_visit Nothing test h j r to = absurd to
-by_visit (At i a) test h j r to = rw (to.0, to.1) h
+by_visit : (o : Option Visit) (test : ℕ → ℕ → Bool) → of_visit o test ≡ true → (j r : ℕ) → To o j r → test j r ≡ true
+by_visit None test h j r to = absurd to
+by_visit (Some o) test h j r to = rw (to.0, to.1) h
 
 -- a visit whose test fails
-record Failing (o : Visit) (test : ℕ → ℕ → Bool) : Type 0 where
+record Failing (o : Option Visit) (test : ℕ → ℕ → Bool) : Type 0 where
   instant : ℕ
   stream : ℕ
   to : To o instant stream
   fails : test instant stream ≡ false
 
-failing : (o : Visit) (test : ℕ → ℕ → Bool) → of_visit o test ≡ false → Failing o test
-failing Nothing test f = absurd (true≢false f)
-failing (At i a) test f = record { instant = i; stream = a; to = (refl, refl); fails = f }
+failing : (o : Option Visit) (test : ℕ → ℕ → Bool) → of_visit o test ≡ false → Failing o test
+failing None test f = absurd (true≢false f)
+failing (Some o) test f = record { instant = o.instant; stream = o.stream; to = (refl, refl); fails = f }
 
 all_true_is : (a b c : Bool) → a ≡ true → b ≡ true → c ≡ true → (a && (b && c)) ≡ true
 all_true_is a b c p q r = rw (p, q, r) refl
@@ -147,9 +148,9 @@ module _ (file : List ℕ) {node : NodeValues} (e : verdict_of file ≡ accepted
   abbrev Same : ℕ → Type 0
   Same t = (j r : ℕ) → j ≤ t → r < streams_of file → v j r ≡ w j r
 
-  value_same : (t s : ℕ) (o : Visit) → Falls file (streams_of file) t s o → Same t → value_at v o ≡ value_at w o
-  value_same t s Nothing f same = refl
-  value_same t s (At i a) f same = same i a (le_of_suc-le-suc f.early) f.within.1
+  value_same : (t s : ℕ) (o : Option Visit) → Falls file (streams_of file) t s o → Same t → value_at v o ≡ value_at w o
+  value_same t s None f same = refl
+  value_same t s (Some o) f same = same o.instant o.stream (le_of_suc-le-suc f.early) f.within.1
 
   two_same : (t s : ℕ) → t < 16 → s < streams_of file → Same t → two (equation_at file) v t s ≡ two (equation_at file) w t s
   unfolding one two
@@ -165,7 +166,7 @@ module _ (file : List ℕ) {node : NodeValues} (e : verdict_of file ≡ accepted
   visited_same {t} {s} early l same (by_two {i = i} {q = q} to p) =
       let d = two_lower file e v t s i q early l to in
       let sooner = d.instant in
-      by_two (subst (λ (o : Visit). To o i q) (two_same t s early l same) to) (visited_same (lt_of_le_of_lt sooner early) d.stream (λ j r m n. same j r (omega arith) n) p)
+      by_two (subst (λ (o : Option Visit). To o i q) (two_same t s early l same) to) (visited_same (lt_of_le_of_lt sooner early) d.stream (λ j r m n. same j r (omega arith) n) p)
 
   pub all_inside_same : (t s : ℕ) → t < 16 → s < streams_of file → Same t → VisitedInside (equation_at file) w t s → VisitedInside (equation_at file) v t s
   all_inside_same t s early l same all j r p =

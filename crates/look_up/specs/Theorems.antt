@@ -2,7 +2,8 @@
 use Rattle.std.specs.Prelude.{◌≡◌, ◌⊎◌, ℕ, ◌<◌, ◌≤◌, Bool, false, List, map, ℤ, length}
 use Rattle.answers.specs.declared.Place.{Place}
 use Rattle.answers.specs.declared.Place.TheVariants.{Record as AtRecord}
-use Rattle.answers.specs.Answer.{accepted, refused, NodeValues}
+use Rattle.answers.specs.Answer.{accepted, refused}
+use Rattle.answers.specs.declared.NodeValues.{NodeValues}
 use Rattle.node.specs.declared.equation.Equation.{Equation}
 use Rattle.node.specs.Equations.{equation_at}
 use Rattle.node.specs.Inputs.{input_count}
@@ -17,8 +18,7 @@ use Rattle.session.specs.declared.Session.{Session}
 use Rattle.session.specs.Events.{Event, Run, begun_run, runs}
 use Rattle.session.specs.Lists.{Answered, call}
 use Rattle.session.specs.Records.{begun_of}
-use Rattle.look_up.specs.declared.visits.Visit.TheVariants.{At}
-use Rattle.look_up.specs.Visits.{visits, chooses}
+use Rattle.look_up.specs.Visits.{visits, visit_at, chooses}
 use Rattle.look_up.specs.Visited.{VisitedInside, VisitedOutside}
 use Rattle.look_up.specs.LookUp.{look_up_of}
 
@@ -26,7 +26,7 @@ use Rattle.look_up.specs.LookUp.{look_up_of}
 abbrev pub AllOperands : Type 0
 AllOperands =
     (e : Equation) (t : ℕ) (holds : Bool) → chooses e ≡ false
-    → visits e t holds ≡ map (λ r. At t r.stream) (reads e)
+    → visits e t holds ≡ map (λ r. visit_at t r.stream) (reads e)
 
 -- a look-up that is refused with 34 or not at all: of an accepted node, a typed "history of up to 16 instants", and a stream and an
 -- instant in it

@@ -1,11 +1,10 @@
 -- The visited values of an assignment, and whether one "leaves the range".
-use Rattle.std.specs.Prelude.{ℕ, zero, suc, ◌≡◌, Bool, true, false, ◌&&◌}
+use Rattle.std.specs.Prelude.{ℕ, zero, suc, ◌≡◌, Bool, true, false, ◌&&◌, None, Option, Some}
 use Rattle.integers.specs.Range.{inside}
 use Rattle.node.specs.declared.equation.Equation.{Equation}
 use Rattle.streams.specs.Solutions.{Streams}
 use Rattle.streams.specs.Values.{truth}
 use Rattle.look_up.specs.declared.visits.Visit.{Visit}
-use Rattle.look_up.specs.declared.visits.Visit.TheVariants.{Nothing, At}
 use Rattle.look_up.specs.Visits.{first_visit, second_visit, To, value_at}
 
 -- an equation a stream
@@ -13,10 +12,10 @@ abbrev pub Equations : Type 0
 Equations = ℕ → Equation
 
 -- what stream s visits at instant t
-unfoldable pub one : Equations → (t s : ℕ) → Visit
+unfoldable pub one : Equations → (t s : ℕ) → Option Visit
 one es t s = first_visit (es s) t
 
-unfoldable pub two : Equations → Streams → (t s : ℕ) → Visit
+unfoldable pub two : Equations → Streams → (t s : ℕ) → Option Visit
 two es v t s = second_visit (es s) t (truth (value_at v (one es t s)))
 
 -- stream r at instant j is visited from stream s at instant t
@@ -38,9 +37,9 @@ pub record VisitedOutside (es : Equations) (v : Streams) (t s : ℕ) : Type 0 wh
 
 -- The first as a test: what is visited in at most k steps is inside. That it is the same from 16 · 64 steps on, and where it fails
 -- some value leaves the range, is a theorem (proofs/Within.antt).
-abbrev pub of_visit : Visit → (test : ℕ → ℕ → Bool) → Bool
-of_visit Nothing test = true
-of_visit (At i a) test = test i a
+abbrev pub of_visit : Option Visit → (test : ℕ → ℕ → Bool) → Bool
+of_visit None test = true
+of_visit (Some visit) test = test visit.instant visit.stream
 
 unfoldable pub inside_in : Equations → Streams → (k t s : ℕ) → Bool
 inside_in es v zero t s = inside (v t s)

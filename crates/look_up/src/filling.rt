@@ -1,59 +1,44 @@
-// The table at the start: the inputs of a history, each at its stream and instant.
-ghost use Rattle.std.specs.Prelude.{suc, ◌*◌, ◌<◌, ◌≤◌, ◌≡◌, true, length};
-ghost use Rattle.answers.specs.Answer.{is_accepted};
-ghost use Rattle.node.specs.Inputs.{inputs_below, input_count};
-ghost use Rattle.node.specs.Layout.{streams_of};
-ghost use Rattle.node.specs.Verdict.{verdict_of};
-ghost use Rattle.look_up.specs.Looking.{StreamSet, Adding, HoldsHistory};
+// The table at the start: just the inputs of a history are known, each at its stream and instant.
+ghost use Rattle.std.specs.Prelude.{suc, ◌<◌, ◌≤◌, ◌≡◌, length};
+ghost use Rattle.node.specs.Inputs.{inputs_below};
+ghost use Rattle.look_up.specs.Looking.{StreamSet, HoldsHistory};
 
+use crate::history::History;
 use histories::inputs_at;
 use node::is_input_among;
 use streams::number_at;
 
 // Sets stream s to its inputs, number j of each instant.
-fn set_stream(values: &mut [i64; 1024], s: usize, count: usize, inputs: &[i64], m: usize, j: usize)
-    requires { (s < 64) × (count ≤ 16) × (length inputs.now ≡ count * m) × (length values.old ≡ 1024) }
-    ensures { StreamSet inputs.now m j s count values.old values.new }
+fn set_stream(history: &History, table: &mut [Option<i64>; 1024], s: usize, j: usize)
+    requires { (s < 64) × (history.now.count ≤ 16) × (length table.old ≡ 1024) }
+    ensures { StreamSet history.now.inputs.now history.now.m j s history.now.count table.old table.new }
 {
-    let mut t = 0;
-    while t < count {
-        values[64 * t + s] = number_at(inputs_at(inputs, m, t), j);
-        t += 1;
+    for t in 0..history.count {
+        table[64 * t + s] = Some(number_at(inputs_at(history.inputs, history.m, t), j));
     }
 }
 
 // Sets stream s where it is an input, number j of them; how many inputs there are with it.
-fn add_stream(
-    file: &[u8],
-    n: usize,
-    values: &mut [i64; 1024],
-    s: usize,
-    count: usize,
-    inputs: &[i64],
-    m: usize,
-    j: usize,
-) -> usize
-    requires { Adding file.now n s count inputs.now m j × HoldsHistory file.now count inputs.now s values.old }
-    ensures { (result ≡ inputs_below file.now (suc s)) × HoldsHistory file.now count inputs.now (suc s) values.new }
+fn add_stream(history: &History, table: &mut [Option<i64>; 1024], s: usize, j: usize) -> usize
+    requires { (history.now.count ≤ 16) × (s < history.now.n) × (j ≡ inputs_below history.now.file.now s) × HoldsHistory history.now.file.now history.now.count history.now.inputs.now s table.old }
+    ensures { (result ≡ inputs_below history.now.file.now (suc s)) × HoldsHistory history.now.file.now history.now.count history.now.inputs.now (suc s) table.new }
 {
-    if is_input_among(file, n, s) {
-        set_stream(values, s, count, inputs, m, j);
+    if is_input_among(history.file, history.n, s) {
+        set_stream(history, table, s, j);
         return j + 1;
     }
     j
 }
 
 // The inputs of all streams.
-pub fn filled(file: &[u8], n: usize, count: usize, inputs: &[i64], m: usize) -> [i64; 1024]
-    requires { (is_accepted (verdict_of file.now) ≡ true) × (n ≡ streams_of file.now) × (m ≡ input_count file.now) × (length inputs.now ≡ count * m) × (count ≤ 16) }
-    ensures { HoldsHistory file.now count inputs.now n result }
+pub fn filled(history: &History) -> [Option<i64>; 1024]
+    requires { history.now.count ≤ 16 }
+    ensures { HoldsHistory history.now.file.now history.now.count history.now.inputs.now history.now.n result }
 {
-    let mut values = [0i64; 1024];
+    let mut table = [None; 1024];
     let mut j = 0;
-    let mut s = 0;
-    while s < n {
-        j = add_stream(file, n, &mut values, s, count, inputs, m, j);
-        s += 1;
+    for s in 0..history.n {
+        j = add_stream(history, &mut table, s, j);
     }
-    values
+    table
 }

@@ -3,6 +3,7 @@
 
 mod answering;
 mod filling;
+mod history;
 mod refusals;
 mod table;
 mod visits;

@@ -4,7 +4,6 @@ ghost use Rattle.integers.specs.Range.{checked_of};
 ghost use Rattle.look_up.specs.Looking.{over};
 ghost use Rattle.look_up.specs.Visits.{first_visit, second_visit};
 
-use integers::Checked;
 use node::Equation;
 use streams::{
     at_most, both, either, equal, greater_of, lesser_of, minus, negation, plus, same, times, whole,
@@ -12,81 +11,70 @@ use streams::{
 
 // A stream that is visited, and its instant.
 #[derive(Clone, Copy)]
-pub enum Visit {
-    Nothing,
-    At(usize, u16),
+pub struct Visit {
+    pub instant: usize,
+    pub stream: u16,
 }
 
 // What is visited first, from instant t.
-pub fn first_visit(e: Equation, t: usize) -> Visit
+pub fn first_visit(e: Equation, t: usize) -> Option<Visit>
     ensures { result ≡ first_visit e t }
 {
-    match e {
-        Equation::Input => Visit::Nothing,
-        Equation::Constant(_) => Visit::Nothing,
-        Equation::Not(a) => Visit::At(t, a),
-        Equation::And(a, _) => Visit::At(t, a),
-        Equation::Or(a, _) => Visit::At(t, a),
-        Equation::Same(a, _) => Visit::At(t, a),
-        Equation::Sum(a, _) => Visit::At(t, a),
-        Equation::Difference(a, _) => Visit::At(t, a),
-        Equation::Multiple(_, a) => Visit::At(t, a),
-        Equation::AtMost(a, _) => Visit::At(t, a),
-        Equation::Equal(a, _) => Visit::At(t, a),
-        Equation::If {
-            condition,
+    let (instant, stream) = match e {
+        Equation::Input | Equation::Constant(_) => return None,
+        Equation::Arrow(a, b) => (t, if t == 0 { a } else { b }),
+        Equation::FollowedBy(a, b) => if t == 0 { (t, a) } else { (t - 1, b) },
+        Equation::Not(a)
+        | Equation::And(a, _)
+        | Equation::Or(a, _)
+        | Equation::Same(a, _)
+        | Equation::Sum(a, _)
+        | Equation::Difference(a, _)
+        | Equation::Multiple(_, a)
+        | Equation::AtMost(a, _)
+        | Equation::Equal(a, _)
+        | Equation::If {
+            condition: a,
             then: _,
             otherwise: _,
-        } => Visit::At(t, condition),
-        Equation::Arrow(a, b) => if t == 0 {
-            Visit::At(t, a)
-        } else {
-            Visit::At(t, b)
-        },
-        Equation::FollowedBy(a, b) => if t == 0 {
-            Visit::At(t, a)
-        } else {
-            Visit::At(t - 1, b)
-        },
-        Equation::Lesser(a, _) => Visit::At(t, a),
-        Equation::Greater(a, _) => Visit::At(t, a),
-    }
+        }
+        | Equation::Lesser(a, _)
+        | Equation::Greater(a, _) => (t, a),
+    };
+    Some(Visit { instant, stream })
 }
 
 // What is visited then: `holds` says whether the first is true.
-pub fn second_visit(e: Equation, t: usize, holds: bool) -> Visit
+pub fn second_visit(e: Equation, t: usize, holds: bool) -> Option<Visit>
     ensures { result ≡ second_visit e t holds }
 {
-    match e {
-        Equation::Input => Visit::Nothing,
-        Equation::Constant(_) => Visit::Nothing,
-        Equation::Not(_) => Visit::Nothing,
-        Equation::And(_, b) => Visit::At(t, b),
-        Equation::Or(_, b) => Visit::At(t, b),
-        Equation::Same(_, b) => Visit::At(t, b),
-        Equation::Sum(_, b) => Visit::At(t, b),
-        Equation::Difference(_, b) => Visit::At(t, b),
-        Equation::Multiple(_, _) => Visit::Nothing,
-        Equation::AtMost(_, b) => Visit::At(t, b),
-        Equation::Equal(_, b) => Visit::At(t, b),
+    let stream = match e {
+        Equation::Input
+        | Equation::Constant(_)
+        | Equation::Not(_)
+        | Equation::Multiple(_, _)
+        | Equation::Arrow(_, _)
+        | Equation::FollowedBy(_, _) => return None,
         Equation::If {
             condition: _,
             then,
             otherwise,
-        } => if holds {
-            Visit::At(t, then)
-        } else {
-            Visit::At(t, otherwise)
-        },
-        Equation::Arrow(_, _) => Visit::Nothing,
-        Equation::FollowedBy(_, _) => Visit::Nothing,
-        Equation::Lesser(_, b) => Visit::At(t, b),
-        Equation::Greater(_, b) => Visit::At(t, b),
-    }
+        } => if holds { then } else { otherwise },
+        Equation::And(_, b)
+        | Equation::Or(_, b)
+        | Equation::Same(_, b)
+        | Equation::Sum(_, b)
+        | Equation::Difference(_, b)
+        | Equation::AtMost(_, b)
+        | Equation::Equal(_, b)
+        | Equation::Lesser(_, b)
+        | Equation::Greater(_, b) => b,
+    };
+    Some(Visit { instant: t, stream })
 }
 
 // The value of an equation whose visits have the values x and y, by the functions of each operator that a session uses.
-pub fn combined(e: Equation, given: i64, x: i64, y: i64) -> Checked
+pub fn combined(e: Equation, given: i64, x: i64, y: i64) -> Option<i64>
     ensures { result ≡ checked_of (over e given x y) }
 {
     let visited = [x, y];

@@ -5,12 +5,13 @@ use mathlib.Core.List.{List}
 use Prim.Native.Nat.{ℕ, suc, ◌+◌, ◌-◌, ◌<◌, ◌≤◌}
 use native.Mathlib.Omega.{arith}
 use lib.IntN.{ℤ}
-use Rattle.answers.specs.Answer.{Answer, accepted, refused}
+use Rattle.answers.specs.Answer.{Answer}
 use Rattle.look_ups.specs.Questions.{answer_of, values_in, values_from}
+use Rattle.std.specs.Prelude.{Err, Ok}
 
 one_at_most : (a : Answer ℤ) → values_in a ≤ 1
-one_at_most (accepted x) = omega arith
-one_at_most (refused number place) = omega arith
+one_at_most (Ok x) = omega arith
+one_at_most (Err r) = omega arith
 
 module _ (node history questions : List ℕ) where
   -- before question i of so many: at most one value a question so far, and with those of the questions left they are all

@@ -11,13 +11,13 @@ use lib.Dec.{eqb, ltb}
 use lib.IntN.{ℤ, pos, nat_abs, ◌+ℤ◌, ◌-ℤ◌}
 use lib.ListN.{get_or}
 use mir.Syntax.{w64}
-use mir.Val.{SFits, to_z, of_z}
+use mir.Val.{SFits, to_z}
 use mir.Facts.{to_z-of_z}
 use borrow.Author.Tests.{ltb-true, ltb-false}
 use Rattle.integers.proofs.Diff.{zify}
 use Rattle.integers.proofs.Abs.{abs_fits, bound_add}
 use Rattle.integers.proofs.Reading.{rd}
-use Rattle.integers.proofs.Ring.{+ℤ_idl, +ℤ_idr}
+use Rattle.integers.proofs.Ring.{+ℤ_idl, +ℤ_idr, +ℤ_comm}
 use Rattle.fields.specs.Fields.{u32_at, i32_at, twos_complement}
 use Rattle.answers.specs.Checks.{every}
 use Rattle.constraints.specs.Layout.{Constraint}
@@ -77,19 +77,19 @@ word_limit s at bytes =
 
 -- one more share, of a sum of j: at most eight are summed
 module _ (z : ℤ) (sum j : ℕ) (few : j < 8) (h : nat_abs z ≤ 2147483648) (k : nat_abs (to_z w64 sum) ≤ j * 2147483648) where
-  turn_is : rd w64 z +ℤ to_z w64 sum ≡ z +ℤ to_z w64 sum
-  turn_is = ap (λ (y : ℤ). y +ℤ to_z w64 sum) (to_z-of_z (abs_fits w64 z (omega arith)))
+  turn_is : to_z w64 sum +ℤ rd w64 z ≡ z +ℤ to_z w64 sum
+  turn_is = ap (λ (y : ℤ). to_z w64 sum +ℤ y) (to_z-of_z (abs_fits w64 z (omega arith))) ∙ +ℤ_comm (to_z w64 sum) z
 
   bounded : nat_abs (z +ℤ to_z w64 sum) ≤ 2147483648 + j * 2147483648
   bounded = bound_add 2147483648 (j * 2147483648) z (to_z w64 sum) h k
 
-  pub turn_fits : SFits w64 (rd w64 z +ℤ to_z w64 sum)
+  pub turn_fits : SFits w64 (to_z w64 sum +ℤ rd w64 z)
   turn_fits = rw turn_is (abs_fits w64 (z +ℤ to_z w64 sum) (omega (arith, bounded)))
 
-  pub turn : to_z w64 (of_z w64 (rd w64 z +ℤ to_z w64 sum)) ≡ z +ℤ to_z w64 sum
+  pub turn : rd w64 (to_z w64 sum +ℤ rd w64 z) ≡ z +ℤ to_z w64 sum
   turn = to_z-of_z turn_fits ∙ turn_is
 
-  pub turn_limit : nat_abs (to_z w64 (of_z w64 (rd w64 z +ℤ to_z w64 sum))) ≤ (j + 1) * 2147483648
+  pub turn_limit : nat_abs (rd w64 (to_z w64 sum +ℤ rd w64 z)) ≤ (j + 1) * 2147483648
   turn_limit = rw turn (omega (arith, bounded))
 
 -- three shares

@@ -1,3 +1,4 @@
+pub mod Words
 pub mod Coefficients
 pub mod Multiples
 pub mod Saying

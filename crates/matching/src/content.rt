@@ -1,7 +1,7 @@
 // "compared by content": a constraint of the file against one of three variables.
 ghost use Rattle.std.specs.Prelude.{◌+◌, ◌<◌, ◌≤◌, ◌≡◌, true, nat_abs, length};
 ghost use Rattle.constraints.specs.Layout.{head_at, term_at, constraint_at};
-ghost use Rattle.constraints.specs.Linear.{monomial, coefficient, written, same_z, agree_at, same_content, bounded_of as of_constraint};
+ghost use Rattle.constraints.specs.Linear.{monomial, coefficient, written, agree_at, same_content, bounded_of as of_constraint};
 ghost use Rattle.rules.specs.Clauses.{bounded_of};
 ghost use Rattle.matching.specs.Content.{share, agree, Summable};
 
@@ -30,10 +30,8 @@ pub fn coefficient_at(file: &[u8], at: usize, count: usize, x: u32) -> i64
     ensures { result ≡ coefficient (written (constraint_at file.now at) count) x }
 {
     let mut sum: i64 = 0;
-    let mut j = 0;
-    while j < count {
-        sum = share_at(file, at, j, x) + sum;
-        j += 1;
+    for j in 0..count {
+        sum += share_at(file, at, j, x);
     }
     sum
 }
@@ -45,18 +43,12 @@ pub fn coefficient_of(d: Linear, x: u32) -> i64
     share(d.x, d.a, x) + (share(d.y, d.b, x) + share(d.z, d.c, x))
 }
 
-pub fn same_number(l: i64, r: i64) -> bool
-    ensures { result ≡ same_z l r }
-{
-    (l <= r) & (r <= l)
-}
-
 // Both have the same coefficient at x.
 fn do_agree(file: &[u8], at: usize, count: usize, d: Linear, x: u32) -> bool
     requires { (at + 80 ≤ length file.now) × (count ≤ 8) × Summable d }
     ensures { result ≡ agree (written (constraint_at file.now at) count) (bounded_of d).form x }
 {
-    same_number(coefficient_at(file, at, count, x), coefficient_of(d, x))
+    coefficient_at(file, at, count, x) == coefficient_of(d, x)
 }
 
 // They agree at each variable of d. `first` is the file's coefficient at the first of them, which the caller has summed; the third is
@@ -66,7 +58,7 @@ fn do_variables_agree(file: &[u8], at: usize, count: usize, d: Linear, first: i6
     requires first_value { first ≡ coefficient (written (constraint_at file.now at) count) d.x }
     ensures { result ≡ agree_at (written (constraint_at file.now at) count) (bounded_of d).form (bounded_of d).form }
 {
-    let others = do_agree(file, at, count, d, d.y) & same_number(first, coefficient_of(d, d.x));
+    let others = do_agree(file, at, count, d, d.y) & (first == coefficient_of(d, d.x));
     if (d.z == d.x) | (d.z == d.y) {
         return others;
     }
@@ -91,15 +83,10 @@ fn do_terms_agree(file: &[u8], at: usize, count: usize, d: Linear) -> bool
     requires d_value { agree_at (written (constraint_at file.now at) count) (bounded_of d).form (bounded_of d).form ≡ true }
     ensures { result ≡ agree_at (written (constraint_at file.now at) count) (bounded_of d).form (written (constraint_at file.now at) count) }
 {
-    let mut j = 0;
-    while j < count {
+    (0..count).all(|j| {
         let term = term_at(file, at, j);
-        if !do_agree_elsewhere(file, at, count, d, var(term.offset, term.stream)) {
-            return false;
-        }
-        j += 1;
-    }
-    true
+        do_agree_elsewhere(file, at, count, d, var(term.offset, term.stream))
+    })
 }
 
 // The constraint at an offset has the content of d. `first` is its coefficient at d's first variable.
@@ -110,7 +97,7 @@ pub fn same_content(file: &[u8], at: usize, d: Linear, first: i64) -> bool
 {
     let head = constraint_head(file, at);
     let count = head.count as usize;
-    if !(same_number(head.bound, d.bound) & do_variables_agree(file, at, count, d, first)) {
+    if !((head.bound == d.bound) & do_variables_agree(file, at, count, d, first)) {
         return false;
     }
     do_terms_agree(file, at, count, d)

@@ -7,7 +7,7 @@ ghost use Rattle.rules.specs.Limited.{Limited};
 ghost use Rattle.clauses.specs.Limits.{Small};
 ghost use Rattle.matching.specs.Factors.{multiplied_by, Fitting};
 
-use crate::content::{coefficient_at, coefficient_of, same_content, same_number};
+use crate::content::{coefficient_at, coefficient_of, same_content};
 use constraints::constraint_head;
 use rules::Linear;
 
@@ -16,20 +16,14 @@ fn factor_from(z: i64) -> i64
     requires { nat_abs z ≤ 100000000000 }
     ensures { result ≡ pos (factor_from z) }
 {
-    if 0 < z {
-        z
-    } else if z < 0 {
-        -z
-    } else {
-        1
-    }
+    z.abs().max(1)
 }
 
 // Where the factor is read: at the first variable, or in the bound where the file's constraint lacks that.
 fn read_off(first: i64, bound: i64) -> i64
     ensures { result ≡ read_off first bound }
 {
-    if same_number(first, 0) { bound } else { first }
+    if first == 0 { bound } else { first }
 }
 
 fn multiplied(factor: i64, d: Linear) -> Linear
@@ -55,7 +49,7 @@ pub fn is_multiple(file: &[u8], at: usize, d: Linear) -> bool
 {
     let head = constraint_head(file, at);
     let first = coefficient_at(file, at, head.count as usize, d.x);
-    if same_number(first, 0) & !same_number(coefficient_of(d, d.x), 0) {
+    if (first == 0) & (coefficient_of(d, d.x) != 0) {
         return false;
     }
     let factor = factor_from(read_off(first, head.bound));

@@ -6,8 +6,6 @@ use mathlib.Core.List.{List}
 use Prim.Native.Nat.{ℕ, ◌<◌}
 use native.Mathlib.Omega.{arith}
 use borrow.Author.Tests.{ltb-true}
-use Rattle.answers.specs.declared.Found.{Found}
-use Rattle.answers.specs.declared.Found.TheVariants.{At, Nothing}
 use Rattle.answers.specs.declared.Place.{Place}
 use Rattle.answers.specs.declared.Place.TheVariants.{Record as AtRecord}
 use Rattle.answers.specs.Answer.{refused}
@@ -26,6 +24,7 @@ use Rattle.node.specs.Verdict.{never_placed, records_verdict, verdict_of}
 use Rattle.node.proofs.Circles.{placed_no_circle, unplaced_circle}
 use Rattle.node.proofs.Needs.{by_operand, operand_streams, OfNeeded, needed_of, needed_is}
 use Rattle.node.proofs.Outcomes.{refused_first}
+use Rattle.std.specs.Prelude.{None, Option, Some}
 
 reads_below : (operand : Operand) (n x : ℕ) → is_stream operand n x ≡ true → All (OfNeeded (λ y. y < n)) (reading operand x)
 reads_below Unused n x e = tt
@@ -63,9 +62,9 @@ module _ (s : List ℕ) where
   unfolding verdict_of records_verdict
   refusal_of file shapes operands circle = go (never_placed (order_of s) n) refl
     where
-      go : (f : Found) → never_placed (order_of s) n ≡ f → (i : ℕ) × (verdict_of s ≡ refused 23 (AtRecord i))
-      go (At i) e = (i, rw (file.size, file.fixed, file.counts, file.distance, none _ _ shapes, none _ _ operands, e))
-      go Nothing e = absurd (placed_no_circle (needs_of s) n circle.0 (all (is_among (order_of s)) n e circle.0 circle.1) circle.2)
+      go : (f : Option ℕ) → never_placed (order_of s) n ≡ f → (i : ℕ) × (verdict_of s ≡ refused 23 (AtRecord i))
+      go (Some i) e = (i, rw (file.size, file.fixed, file.counts, file.distance, none _ _ shapes, none _ _ operands, e))
+      go None e = absurd (placed_no_circle (needs_of s) n circle.0 (all (is_among (order_of s)) n e circle.0 circle.1) circle.2)
 
   pub circle_refused : CircleRefused s
   circle_refused = record { circle = λ e. circle_of (refused_first s e) refl; refusal = refusal_of }

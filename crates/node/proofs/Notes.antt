@@ -5,12 +5,14 @@ use mathlib.Core.List.{List, ◌++◌}
 use Prim.Native.Nat.{ℕ, ◌-◌, ◌≤◌, zero-le}
 use native.Mathlib.Omega.{arith}
 use lib.ListN.{length, take, take-append-drop, length-drop}
-use Rattle.answers.specs.Answer.{Answer, accepted, refused, NodeValues}
+use Rattle.answers.specs.Answer.{Answer, accepted}
+use Rattle.answers.specs.declared.NodeValues.{NodeValues}
 use Rattle.node.specs.Layout.{size_of, records_of}
 use Rattle.node.specs.Note.{note_length, note_of, without_note}
 use Rattle.node.specs.Verdict.{verdict_of}
 use Rattle.node.proofs.FileRules.{Sizes, sizes}
 use Rattle.node.proofs.Outcomes.{accepted_keeps, accepted_values}
+use Rattle.std.specs.Prelude.{Err, Ok}
 
 module _ (s : List ℕ) where
   pub accepted_sizes : {node : NodeValues} → verdict_of s ≡ accepted node → Sizes s
@@ -28,8 +30,8 @@ module _ (s : List ℕ) where
   note_fits = go (verdict_of s)
     where
       go : (a : Answer NodeValues) → note_of (length s) a ≤ length s
-      go (accepted node) = omega arith
-      go (refused number place) = zero-le
+      go (Ok node) = omega arith
+      go (Err r) = zero-le
 
   -- the note and the record area together are the file
   pub note_and_rest : take (note_length s) s ++ without_note s ≡ s

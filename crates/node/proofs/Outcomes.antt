@@ -7,12 +7,14 @@ use mathlib.Core.List.{List}
 use Prim.Native.Nat.{ℕ}
 use Rattle.answers.specs.declared.Place.{Place}
 use Rattle.answers.specs.declared.Place.TheVariants.{File}
-use Rattle.answers.specs.Answer.{Answer, accepted, refused, NodeValues, is_accepted}
+use Rattle.answers.specs.Answer.{Answer, accepted, refused, is_accepted}
+use Rattle.answers.specs.declared.NodeValues.{NodeValues}
 use Rattle.answers.proofs.Checks.{by_check}
 use Rattle.node.specs.Layout.{streams_of, property_of}
 use Rattle.node.specs.Verdict.{verdict_of}
 use Rattle.node.specs.Outcome.{NodeRules, FirstFailure, at_1, at_2, at_3, at_4, Says}
 use Rattle.node.proofs.RecordOutcomes.{of_records}
+use Rattle.std.specs.Prelude.{Err, Ok}
 pub use Rattle.node.proofs.RecordOutcomes.{keeps_accepted}
 
 module _ (s : List ℕ) where
@@ -39,5 +41,5 @@ module _ (s : List ℕ) where
   is_accepted_is t = go (verdict_of s) refl t
     where
       go : (a : Answer NodeValues) → verdict_of s ≡ a → is_accepted a ≡ true → verdict_of s ≡ accepted (record { streams = streams_of s; property = property_of s })
-      go (accepted node) e t = e ∙ ap accepted (accepted_values e)
-      go (refused number place) e t = absurd (false≢true t)
+      go (Ok node) e t = e ∙ ap accepted (accepted_values e)
+      go (Err r) e t = absurd (false≢true t)

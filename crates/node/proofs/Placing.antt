@@ -10,12 +10,11 @@ use native.Mathlib.Omega.{arith}
 use borrow.Author.Tests.{eqb-true}
 use lib.Dec.{eqb}
 use lib.ListN.{length, length-append}
-use Rattle.answers.specs.declared.Found.{Found}
-use Rattle.answers.specs.declared.Found.TheVariants.{At, Nothing}
 use Rattle.answers.proofs.Lowest.{all, first}
 use Rattle.answers.proofs.Tests.{both_true, either_true}
 use Rattle.node.specs.Order.{is_among, all_among, is_ready, lowest_ready, followed_by, extended, order_after, order_by, place_in}
 use Rattle.node.proofs.Different.{Distinct, distinct_more, among_append, or_left, place_below, place_stays, place_last, bounded, covers}
+use Rattle.std.specs.Prelude.{None, Option, Some}
 
 not_false_true : (b : Bool) → not b ≡ false → b ≡ true
 not_false_true true e = refl
@@ -78,7 +77,7 @@ module _ (needs : ℕ → List ℕ) (n : ℕ) where
         }
 
   -- the next record is ready and one of n
-  pub next_ready : (order : List ℕ) (i : ℕ) → lowest_ready needs n order ≡ At i → (i < n) × (is_ready needs order i ≡ true)
+  pub next_ready : (order : List ℕ) (i : ℕ) → lowest_ready needs n order ≡ Some i → (i < n) × (is_ready needs order i ≡ true)
   unfolding lowest_ready
   next_ready order i e =
       let low = first (λ j. not (is_ready needs order j)) n i e in
@@ -89,14 +88,14 @@ module _ (needs : ℕ → List ℕ) (n : ℕ) where
   sorted zero = record { distinct = tt; after = λ i x e h. absurd (false≢true e) }
   sorted (suc k) = go (lowest_ready needs n (order_after needs n k)) refl (sorted k)
     where
-      go : (f : Found) → lowest_ready needs n (order_after needs n k) ≡ f → Sorted (order_after needs n k) → Sorted (followed_by (order_after needs n k) f)
-      go (At i) e s = let next = next_ready (order_after needs n k) i e in sorted_more (order_after needs n k) i s next.0 next.1
-      go Nothing e s = s
+      go : (f : Option ℕ) → lowest_ready needs n (order_after needs n k) ≡ f → Sorted (order_after needs n k) → Sorted (followed_by (order_after needs n k) f)
+      go (Some i) e s = let next = next_ready (order_after needs n k) i e in sorted_more (order_after needs n k) i s next.0 next.1
+      go None e s = s
 
   -- ---- n turns are enough
 
   -- where nothing is ready the order rests
-  pub rests : (k j : ℕ) → lowest_ready needs n (order_after needs n k) ≡ Nothing → k ≤ j → order_after needs n j ≡ order_after needs n k
+  pub rests : (k j : ℕ) → lowest_ready needs n (order_after needs n k) ≡ None → k ≤ j → order_after needs n j ≡ order_after needs n k
   unfolding order_after
   rests k zero e l = let p : zero ≡ k = omega arith in ap (order_after needs n) p
   rests k (suc j) e l = ⊎_elim (λ (p : k ≡ suc j). ap (order_after needs n) (sym p)) (λ (m : k < suc j). next (rests k j e (le_of_suc-le-suc m))) (eq-or-lt_of_le l)
@@ -105,26 +104,26 @@ module _ (needs : ℕ → List ℕ) (n : ℕ) where
       next p = ap (extended needs n) p ∙ ap (followed_by (order_after needs n k)) e
 
   -- after k turns nothing is ready, or there are k records
-  turns_placed : (k : ℕ) → (lowest_ready needs n (order_after needs n k) ≡ Nothing) ⊎ (length (order_after needs n k) ≡ k)
+  turns_placed : (k : ℕ) → (lowest_ready needs n (order_after needs n k) ≡ None) ⊎ (length (order_after needs n k) ≡ k)
   unfolding order_after
   turns_placed zero = inr refl
   turns_placed (suc k) = go (lowest_ready needs n (order_after needs n k)) refl (turns_placed k)
     where
-      go : (f : Found) → lowest_ready needs n (order_after needs n k) ≡ f → (lowest_ready needs n (order_after needs n k) ≡ Nothing) ⊎ (length (order_after needs n k) ≡ k) → (lowest_ready needs n (followed_by (order_after needs n k) f) ≡ Nothing) ⊎ (length (followed_by (order_after needs n k) f) ≡ suc k)
-      go Nothing e before = inl e
-      go (At i) e (inl none) = absurd (at_nothing (sym e ∙ none))
+      go : (f : Option ℕ) → lowest_ready needs n (order_after needs n k) ≡ f → (lowest_ready needs n (order_after needs n k) ≡ None) ⊎ (length (order_after needs n k) ≡ k) → (lowest_ready needs n (followed_by (order_after needs n k) f) ≡ None) ⊎ (length (followed_by (order_after needs n k) f) ≡ suc k)
+      go None e before = inl e
+      go (Some i) e (inl none) = absurd (at_nothing (sym e ∙ none))
         where
-          at_nothing : At i ≡ Nothing → ⊥
+          at_nothing : Some i ≡ None → ⊥
           at_nothing p = let z : ◌≡◌ {A = ℕ} 0 1 = cc in omega arith
-      go (At i) e (inr h) = inr (length-append (order_after needs n k) (i ∷ []) ∙ omega arith)
+      go (Some i) e (inr h) = inr (length-append (order_after needs n k) (i ∷ []) ∙ omega arith)
 
   -- after n turns nothing is ready
-  pub stuck : lowest_ready needs n (order_by needs n) ≡ Nothing
+  pub stuck : lowest_ready needs n (order_by needs n) ≡ None
   stuck = ⊎_elim (λ e. e) (λ h. full h (lowest_ready needs n (order_by needs n)) refl) (turns_placed n)
     where
-      full : length (order_by needs n) ≡ n → (f : Found) → lowest_ready needs n (order_by needs n) ≡ f → f ≡ Nothing
-      full h Nothing e = refl
-      full h (At i) e =
+      full : length (order_by needs n) ≡ n → (f : Option ℕ) → lowest_ready needs n (order_by needs n) ≡ f → f ≡ None
+      full h None e = refl
+      full h (Some i) e =
           let next = next_ready (order_by needs n) i e in
           let all_different = (sorted_more (order_by needs n) i (sorted n) next.0 next.1).distinct in
           absurd (over (bounded n (order_by needs n ++ (i ∷ [])) all_different))

@@ -11,10 +11,10 @@ use borrow.Author.Tests.{eq-eqb, ne_eqb}
 use lib.Dec.{eqb}
 use lib.ListN.{length, get_or, length-append, get_or-append}
 use lib.Seq.{get_or_at}
-use Rattle.answers.specs.declared.Found.TheVariants.{At}
 use Rattle.answers.proofs.Lowest.{found}
 use Rattle.node.specs.Order.{is_among, all_among, is_ready, lowest_ready, followed_by, order_after, order_by, up_to}
 use Rattle.node.proofs.Different.{among_append, or_left, or_right}
+use Rattle.std.specs.Prelude.{Some}
 
 pub up_to_length : (n : ℕ) → length (up_to n) ≡ n
 unfolding up_to
@@ -52,7 +52,7 @@ module _ (needs : ℕ → List ℕ) (n : ℕ) (lower : (i x : ℕ) → i < n →
       rw (h y (or_left (is_among needed y) (eq-eqb y y refl))) (all_below order needed (λ x e. h x (or_right (eqb y x) e)))
 
   -- record k is the lowest that is not placed, and it is ready
-  next : (k : ℕ) → k < n → lowest_ready needs n (up_to k) ≡ At k
+  next : (k : ℕ) → k < n → lowest_ready needs n (up_to k) ≡ Some k
   unfolding lowest_ready is_ready
   next k l =
       found (λ i. not (is_ready needs (up_to k) i)) n k l

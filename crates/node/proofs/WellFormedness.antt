@@ -6,7 +6,8 @@ use mathlib.Core.Bool.{true, ◌&&◌}
 use mathlib.Core.List.{List}
 use Prim.Native.Nat.{ℕ, ◌<◌}
 use borrow.Author.Tests.{ltb-true, eqb-true}
-use Rattle.answers.specs.Answer.{accepted, NodeValues}
+use Rattle.answers.specs.Answer.{accepted}
+use Rattle.answers.specs.declared.NodeValues.{NodeValues}
 use Rattle.answers.proofs.Tests.{both_true}
 use Rattle.node.specs.declared.layout.Record.{Record}
 use Rattle.node.specs.declared.table.Operand.{Operand}

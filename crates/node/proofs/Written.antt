@@ -11,7 +11,8 @@ use lib.Dec.{ltb}
 use lib.IntN.{ℤ, pos, negsuc, nat_abs}
 use lib.ListN.{length, get_or-eq_default}
 use lib.Signed.{mag}
-use Rattle.answers.specs.Answer.{Answer, accepted, refused, NodeValues}
+use Rattle.answers.specs.Answer.{Answer, accepted}
+use Rattle.answers.specs.declared.NodeValues.{NodeValues}
 use Rattle.fields.proofs.Written.{u16_back, u32_back, i32_back}
 use Rattle.node.specs.declared.layout.Trailer.{Trailer}
 use Rattle.node.specs.declared.layout.Record.{Record}
@@ -28,6 +29,7 @@ use Rattle.node.specs.Written.{record_bytes, trailer_bytes, trailer_for, node_fi
 use Rattle.node.proofs.Encoding.{shape, limited}
 use Rattle.node.proofs.Outcomes.{accepted_values, keeps_accepted}
 use Rattle.node.proofs.WithoutNote.{trailer_on, record_on}
+use Rattle.std.specs.Prelude.{Err, Ok}
 
 trailer_back : (t : Trailer) → trailer_at (trailer_bytes t) 0 ≡ t
 unfolding trailer_bytes
@@ -97,8 +99,8 @@ module _ (records : List Record) (property : ℕ) where
   written_note = go (verdict_of file) refl
     where
       go : (a : Answer NodeValues) → verdict_of file ≡ a → note_of (length file) a ≡ 0
-      go (accepted node) e = omega (arith, written_length, written_streams, ap (λ (v : NodeValues). v.streams) (accepted_values file e))
-      go (refused number place) e = refl
+      go (Ok node) e = omega (arith, written_length, written_streams, ap (λ (v : NodeValues). v.streams) (accepted_values file e))
+      go (Err r) e = refl
 
   module _ (fit : KsFit records) where
     -- record i is the one that was written, the empty one past the last

@@ -1,8 +1,6 @@
 -- "The reader works out an order: each time the lowest-numbered record whose operands needed now are all placed." Here `needs` gives
 -- the operands that each record needs now.
-use Rattle.std.specs.Prelude.{◌≡◌, ℕ, zero, suc, ◌<◌, Bool, true, false, not, cond, ◌&&◌, ◌||◌, List, [], ◌∷◌, ◌++◌, eqb}
-use Rattle.answers.specs.declared.Found.{Found}
-use Rattle.answers.specs.declared.Found.TheVariants.{At, Nothing}
+use Rattle.std.specs.Prelude.{◌≡◌, ℕ, zero, suc, ◌<◌, Bool, true, false, not, cond, ◌&&◌, ◌||◌, List, [], ◌∷◌, ◌++◌, eqb, None, Option, Some}
 use Rattle.answers.specs.Checks.{lowest}
 
 -- a number is among those of a list; a record among those of the order so far is placed
@@ -20,12 +18,12 @@ unfoldable pub is_ready : (needs : ℕ → List ℕ) → (order : List ℕ) → 
 is_ready needs order i = not (is_among order i) && all_among order (needs i)
 
 -- "the lowest-numbered" one of n
-unfoldable pub lowest_ready : (needs : ℕ → List ℕ) → (n : ℕ) → (order : List ℕ) → Found
+unfoldable pub lowest_ready : (needs : ℕ → List ℕ) → (n : ℕ) → (order : List ℕ) → Option ℕ
 lowest_ready needs n order = lowest (λ i. not (is_ready needs order i)) n
 
-abbrev pub followed_by : List ℕ → Found → List ℕ
-followed_by order (At i) = order ++ (i ∷ [])
-followed_by order Nothing = order
+abbrev pub followed_by : List ℕ → Option ℕ → List ℕ
+followed_by order (Some i) = order ++ (i ∷ [])
+followed_by order None = order
 
 -- one turn: the order with the next record, where there is one
 abbrev pub extended : (needs : ℕ → List ℕ) → (n : ℕ) → (order : List ℕ) → List ℕ

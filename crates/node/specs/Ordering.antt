@@ -1,7 +1,7 @@
--- How the reader works the order out: what a record needs now as one number, who needs a stream, and which records are placed as a
--- list of flags.
-use Rattle.std.specs.Prelude.{◌≡◌, ℕ, ◌<◌, ◌≤◌, ◌+◌, ◌*◌, ◌/◌, ◌%◌, Bool, true, false, not, cond, ◌&&◌, List, ltb, eqb, get_or}
+-- How the reader works the order out: what each record needs now, who needs a stream, and which records are placed.
+use Rattle.std.specs.Prelude.{◌≡◌, ℕ, ◌<◌, ◌≤◌, ◌+◌, Bool, true, false, not, cond, ◌&&◌, List, ltb, get_or, min}
 use Rattle.node.specs.declared.layout.Record.{Record}
+use Rattle.node.specs.declared.ordering.Needs.{Needs}
 use Rattle.node.specs.declared.table.Operand.{Operand}
 use Rattle.node.specs.declared.table.Operand.TheVariants.{Unused, Now, Before}
 use Rattle.node.specs.Layout.{record_of}
@@ -17,58 +17,48 @@ unfoldable pub lower_ok : (n i : ℕ) → Record → Bool
 lower_ok n i r =
     is_lower (row_of r.op).a n i r.a && is_lower (row_of r.op).b n i r.b && is_lower (row_of r.op).c n i r.c
 
--- what stands for an operand that is not needed now: no stream, and its flag is that of a placed one
+-- what stands for an operand that is not needed now: no stream, and it counts as placed
 abbrev pub no_stream : ℕ
 no_stream = 64
 
 abbrev pub needed_as : Operand → (x : ℕ) → ℕ
 needed_as Unused x = no_stream
-needed_as (Now wanted) x = x
+needed_as (Now wanted) x = min x no_stream
 needed_as (Before wanted) x = no_stream
 
--- operands a, b and c as one number, each below 128
-abbrev pub packed : (a b c : ℕ) → ℕ
-packed a b c = a + 128 * b + 16384 * c
+-- what a record needs now
+unfoldable pub needs_in : Record → Needs
+needs_in r =
+    record { a = needed_as (row_of r.op).a r.a; b = needed_as (row_of r.op).b r.b; c = needed_as (row_of r.op).c r.c }
 
--- .. and back
-abbrev pub first_part : ℕ → ℕ
-first_part operands = operands % 128
-
-abbrev pub second_part : ℕ → ℕ
-second_part operands = operands / 128 % 128
-
-abbrev pub third_part : ℕ → ℕ
-third_part operands = operands / 16384 % 128
-
-unfoldable pub packed_needs : Record → ℕ
-packed_needs r =
-    packed (needed_as (row_of r.op).a r.a) (needed_as (row_of r.op).b r.b) (needed_as (row_of r.op).c r.c)
+-- what record i of a list needs now
+abbrev pub needs_at : List Needs → (i : ℕ) → Needs
+needs_at needs i = get_or needs i (record { a = 0; b = 0; c = 0 })
 
 -- a list of what each of the first k records of a file needs now
-abbrev pub HoldNeeds : (file : List ℕ) → (k : ℕ) → (needs : List ℕ) → Type 0
-HoldNeeds file k needs = (i : ℕ) → i < k → get_or needs i 0 ≡ packed_needs (record_of file i)
+abbrev pub HoldNeeds : (file : List ℕ) → (k : ℕ) → (needs : List Needs) → Type 0
+HoldNeeds file k needs = (i : ℕ) → i < k → needs_at needs i ≡ needs_in (record_of file i)
 
--- of each part x, `readers` has a number that is at most j for every record j from k on, and below n, that needs x now
-abbrev pub HoldReaders : (needs : List ℕ) → (n k : ℕ) → (readers : List ℕ) → Type 0
+-- of each stream x, `readers` has a number that is at most j for every record j from k on, and below n, that needs x now
+abbrev pub HoldReaders : (needs : List Needs) → (n k : ℕ) → (readers : List ℕ) → Type 0
 HoldReaders needs n k readers =
     (j : ℕ) → k ≤ j → j < n
-    → let operands = get_or needs j 0 in
-    (get_or readers (first_part operands) 0 ≤ j) × (get_or readers (second_part operands) 0 ≤ j) × (get_or readers (third_part operands) 0 ≤ j)
+    → let record_needs = needs_at needs j in
+    (get_or readers record_needs.a 0 ≤ j) × (get_or readers record_needs.b 0 ≤ j) × (get_or readers record_needs.c 0 ≤ j)
 
--- the flag of stream x: 1 where it is placed. There are 128 flags, so that any part of a packed number has one
-abbrev pub is_flagged : (flags : List ℕ) → (x : ℕ) → Bool
-is_flagged flags x = eqb (get_or flags x 0) 1
+-- whether stream x is placed
+abbrev pub is_placed : (placed : List Bool) → (x : ℕ) → Bool
+is_placed placed x = get_or placed x false
 
 -- a record that is not placed and whose needs are
-unfoldable pub ready_by : (flags needs : List ℕ) → (i : ℕ) → Bool
-ready_by flags needs i =
-    let operands = get_or needs i 0 in
-    not (is_flagged flags i)
-    && (is_flagged flags (first_part operands) && is_flagged flags (second_part operands) && is_flagged flags (third_part operands))
+unfoldable pub ready_by : (placed : List Bool) → (needs : List Needs) → (i : ℕ) → Bool
+ready_by placed needs i =
+    let record_needs = needs_at needs i in
+    not (is_placed placed i) && is_placed placed record_needs.a && is_placed placed record_needs.b && is_placed placed record_needs.c
 
 -- none of the first k records is ready
-abbrev pub NoneReady : (flags needs : List ℕ) → (k : ℕ) → Type 0
-NoneReady flags needs k = (i : ℕ) → i < k → ready_by flags needs i ≡ false
+abbrev pub NoneReady : (placed : List Bool) → (needs : List Needs) → (k : ℕ) → Type 0
+NoneReady placed needs k = (i : ℕ) → i < k → ready_by placed needs i ≡ false
 
 -- where the search goes on once record i is placed
 abbrev pub next_start : (i reader : ℕ) → ℕ

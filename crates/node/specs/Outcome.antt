@@ -1,9 +1,10 @@
 -- The rules of a node file one by one: what an accepted file keeps, and what a refusal says. Both are proved of every answer
 -- (proofs/Outcomes.antt), so that no crate above looks into the verdict.
-use Rattle.std.specs.Prelude.{ℕ, ◌<◌, ◌≡◌, List, true, false, length}
+use Rattle.std.specs.Prelude.{ℕ, ◌<◌, ◌≡◌, List, true, false, length, Err, Ok}
 use Rattle.answers.specs.declared.Place.{Place}
 use Rattle.answers.specs.declared.Place.TheVariants.{File, Record as AtRecord}
-use Rattle.answers.specs.Answer.{Answer, accepted, refused, NodeValues}
+use Rattle.answers.specs.Answer.{Answer, refused}
+use Rattle.answers.specs.declared.NodeValues.{NodeValues}
 use Rattle.answers.specs.Checks.{Lowest}
 use Rattle.node.specs.declared.reading.RecordRule.{RecordRule}
 use Rattle.node.specs.declared.reading.RecordRule.TheVariants.{Shape, Operands, Types}
@@ -64,5 +65,5 @@ pub record CircleRefused (s : List ℕ) : Type 0 where
 
 -- what each answer to a node file says
 abbrev pub Says : List ℕ → Answer NodeValues → Type 0
-Says s (accepted node) = NodeRules s × (node ≡ record { streams = streams_of s; property = property_of s })
-Says s (refused number place) = FirstFailure s number place
+Says s (Ok node) = NodeRules s × (node ≡ record { streams = streams_of s; property = property_of s })
+Says s (Err r) = FirstFailure s r.number r.place

@@ -1,9 +1,9 @@
 -- The answer to a node file: the rows 1 to 8 of "Where each refusal is met", with 23 "after 6 and before 7", down the table, each over
 -- all its records first, and the first failure given.
-use Rattle.std.specs.Prelude.{ℕ, List, Bool, length}
-use Rattle.answers.specs.declared.Found.{Found}
+use Rattle.std.specs.Prelude.{ℕ, List, Bool, length, Option}
 use Rattle.answers.specs.declared.Place.TheVariants.{File, Record as AtRecord}
-use Rattle.answers.specs.Answer.{Answer, accepted, NodeValues}
+use Rattle.answers.specs.Answer.{Answer, accepted}
+use Rattle.answers.specs.declared.NodeValues.{NodeValues}
 use Rattle.answers.specs.Checks.{check, check_all, lowest}
 use Rattle.node.specs.declared.reading.RecordRule.{RecordRule}
 use Rattle.node.specs.declared.reading.RecordRule.TheVariants.{Shape, Operands, Types}
@@ -20,7 +20,7 @@ passes_of s n Operands i = operands_ok n (record_of s i)
 passes_of s n Types i = types_ok (type_byte_of s) (record_of s i)
 
 -- 23: "no such order", at "the lowest record never placed"
-abbrev pub never_placed : (order : List ℕ) → (n : ℕ) → Found
+abbrev pub never_placed : (order : List ℕ) → (n : ℕ) → Option ℕ
 never_placed order n = lowest (is_among order) n
 
 -- 7 and 8

@@ -3,18 +3,14 @@ ghost use Rattle.std.specs.Prelude.{◌≡◌, take};
 ghost use Rattle.node.specs.Note.{note_length};
 
 use crate::reading::verdict;
-use answers::NodeVerdict;
 
 // How long the note is; 0 where rules 1 to 8 or 23 refuse the file.
 pub fn note_length(file: &[u8]) -> usize
     ensures { result ≡ note_length file.now }
 {
     match verdict(file) {
-        NodeVerdict::Accepted {
-            streams,
-            property: _,
-        } => file.len() - (16 + 16 * streams),
-        NodeVerdict::Refused(_, _) => 0,
+        Ok(node) => file.len() - (16 + 16 * node.streams),
+        Err(_) => 0,
     }
 }
 

@@ -9,17 +9,14 @@ use crate::layout::records_of;
 pub fn is_input_among(file: &[u8], n: usize, i: usize) -> bool
     ensures { result ≡ is_input_among file.now n i }
 {
-    match equation_among(file, n, i) {
-        Equation::Input => true,
-        _ => false,
-    }
+    matches!(equation_among(file, n, i), Equation::Input)
 }
 
 // The inputs counted so far, with record i of n. A count that no node reaches stays, so that none overflows.
 pub fn with_record(file: &[u8], n: usize, i: usize, inputs: usize) -> usize
     ensures { result ≡ with_record_among file.now n i inputs }
 {
-    if is_input_among(file, n, i) & (inputs < 9223372036854775808) {
+    if is_input_among(file, n, i) && inputs < 9223372036854775808 {
         inputs + 1
     } else {
         inputs
@@ -32,10 +29,8 @@ pub fn input_count(file: &[u8]) -> usize
 {
     let n = records_of(file);
     let mut inputs = 0;
-    let mut i = 0;
-    while i < n {
+    for i in 0..n {
         inputs = with_record(file, n, i, inputs);
-        i += 1;
     }
     inputs
 }

@@ -2,8 +2,7 @@
 ghost use Rattle.std.specs.Prelude.{◌+◌, ◌≤◌, ◌≡◌, length};
 ghost use Rattle.node.specs.Layout.{trailer_of, record_at, records_of, record_among, type_byte_among};
 
-use crate::bytes::{u16_at, u32_at};
-use fields::i32_of;
+use fields::Field;
 
 // The last 16 bytes.
 #[derive(Clone, Copy)]
@@ -19,7 +18,7 @@ pub struct Trailer {
 }
 
 // A record: 16 bytes.
-#[derive(Clone, Copy)]
+#[derive(Clone, Copy, Default)]
 pub struct Record {
     pub op: u8,
     pub ty: u8,
@@ -40,10 +39,10 @@ pub fn trailer_of(file: &[u8]) -> Trailer
         second: file[at + 1],
         version: file[at + 2],
         zero: file[at + 3],
-        streams: u16_at(file, at + 4),
-        property: u16_at(file, at + 6),
-        distance: u32_at(file, at + 8),
-        rest: u32_at(file, at + 12),
+        streams: u16::read_at(file, at + 4),
+        property: u16::read_at(file, at + 6),
+        distance: u32::read_at(file, at + 8),
+        rest: u32::read_at(file, at + 12),
     }
 }
 
@@ -54,11 +53,11 @@ pub fn record_at(file: &[u8], at: usize) -> Record
     Record {
         op: file[at],
         ty: file[at + 1],
-        a: u16_at(file, at + 2),
-        b: u16_at(file, at + 4),
-        c: u16_at(file, at + 6),
-        k: i32_of(u32_at(file, at + 8)),
-        rest: u32_at(file, at + 12),
+        a: u16::read_at(file, at + 2),
+        b: u16::read_at(file, at + 4),
+        c: u16::read_at(file, at + 6),
+        k: i32::read_at(file, at + 8),
+        rest: u32::read_at(file, at + 12),
     }
 }
 
@@ -79,7 +78,8 @@ pub fn records_of(file: &[u8]) -> usize
 }
 
 // Record i of n that stand before the trailer, or the empty record where there is none or they do not fit the file. Whoever reads
-// many records reads the trailer's n once.
+// many records reads the trailer's n once. File and n stay two parameters: published calls take them with any n, and a clause over a struct of
+// both says more in each place.
 pub fn record_among(file: &[u8], n: usize, i: usize) -> Record
     ensures { result ≡ record_among file.now n i }
 {
@@ -89,15 +89,7 @@ pub fn record_among(file: &[u8], n: usize, i: usize) -> Record
         let start = size - (16 + 16 * n);
         record_at(file, start + 16 * i)
     } else {
-        Record {
-            op: 0,
-            ty: 0,
-            a: 0,
-            b: 0,
-            c: 0,
-            k: 0,
-            rest: 0,
-        }
+        Record::default()
     }
 }
 
@@ -105,6 +97,5 @@ pub fn record_among(file: &[u8], n: usize, i: usize) -> Record
 pub fn type_byte_among(file: &[u8], n: usize, i: usize) -> u8
     ensures { result ≡ type_byte_among file.now n i }
 {
-    let record = record_among(file, n, i);
-    record.ty
+    record_among(file, n, i).ty
 }

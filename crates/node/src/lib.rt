@@ -2,8 +2,6 @@
 // total: whatever bytes the file holds, it answers by the definition that its contract cites.
 #![tactic(auto)]
 
-mod arrays;
-mod bytes;
 mod equation;
 mod file_note;
 mod inputs;

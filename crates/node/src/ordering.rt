@@ -1,49 +1,39 @@
 // The order of evaluation: each time the lowest record whose operands needed now are all placed. Where all of them are lower than
 // their records it is the order of the records, and nothing is searched.
-ghost use Rattle.std.specs.Prelude.{◌<◌, ◌≤◌, ◌≡◌, true, not, length, take};
-ghost use Rattle.answers.specs.declared.Found.TheVariants.{Nothing};
+ghost use Rattle.std.specs.Prelude.{◌<◌, ◌≤◌, ◌≡◌, true, not, length, take, IfOk, IfSome};
+ghost use Rattle.std.specs.Result.{result_err};
 ghost use Rattle.answers.specs.Checks.{every, lowest};
 ghost use Rattle.node.specs.declared.reading.RecordRule.TheVariants.{Shape, Operands};
 ghost use Rattle.node.specs.Equations.{equation_at};
 ghost use Rattle.node.specs.Layout.{records_of, record_of};
-ghost use Rattle.node.specs.Ordering.{is_lower, lower_ok, needed_as, packed_needs, first_part, second_part, third_part, HoldNeeds, HoldReaders, is_flagged, ready_by, NoneReady, next_start};
+ghost use Rattle.node.specs.Ordering.{is_lower, lower_ok, needed_as, needs_in, HoldNeeds, HoldReaders, is_placed, ready_by, NoneReady, next_start};
 ghost use Rattle.node.specs.Reads.{worked_out_order};
 ghost use Rattle.node.specs.Verdict.{passes_of, never_placed};
 
-use crate::arrays::NONE_PLACED;
 use crate::layout::{Record, record_among};
 use crate::table::{Operand, row_of};
-use answers::Found;
 
-// The order, and the lowest record that is never placed: where there is none, the order has all.
-#[derive(Clone, Copy)]
-pub struct Order {
-    pub streams: [usize; 64],
-    pub unplaced: Found,
-}
-
-// An operand that is read is below n and, where it is needed now, lower than its record.
+// An operand that is read is below n and, where it is needed now, lower than its record. Another test than rule 6's `is_stream`, not another
+// constant in it.
 fn is_lower(operand: Operand, n: usize, i: usize, x: usize) -> bool
     ensures { result ≡ is_lower operand n i x }
 {
     match operand {
         Operand::Unused => true,
-        Operand::Now(_) => (x < n) & (x < i),
+        Operand::Now(_) => x < n && x < i,
         Operand::Before(_) => x < n,
     }
 }
 
 // All operands of record i are.
+#[tactic(auto, unfolding(crate::specs::Ordering::lower_ok))]
 fn lower_ok(n: usize, i: usize, r: Record) -> bool
     ensures { result ≡ lower_ok n i r }
 {
     let row = row_of(r.op);
-    let a = row.a;
-    let b = row.b;
-    let c = row.c;
-    is_lower(a, n, i, r.a as usize)
-        & is_lower(b, n, i, r.b as usize)
-        & is_lower(c, n, i, r.c as usize)
+    is_lower(row.a, n, i, r.a as usize)
+        && is_lower(row.b, n, i, r.b as usize)
+        && is_lower(row.c, n, i, r.c as usize)
 }
 
 // All operands of all n records are.
@@ -51,141 +41,102 @@ pub fn in_record_order(file: &[u8], n: usize) -> bool
     requires { n ≡ records_of file.now }
     ensures { result ≡ every (λ i. lower_ok n i (record_of file.now i)) n }
 {
-    let mut i = 0;
-    while i < n {
-        if !lower_ok(n, i, record_among(file, n, i)) {
-            return false;
-        }
-        i += 1;
-    }
-    true
+    (0..n).all(|i| lower_ok(n, i, record_among(file, n, i)))
 }
 
-// An operand that is needed now, or 64, which is no stream.
-fn needed(operand: Operand, x: u16) -> u16
+// What a record needs now, operand by operand.
+#[derive(Clone, Copy)]
+struct Needs {
+    a: u8,
+    b: u8,
+    c: u8,
+}
+
+// What stands for an operand that is not needed now: no stream. It counts as placed.
+const NO_STREAM: u8 = 64;
+
+// An operand that is needed now, or no stream.
+fn needed(operand: Operand, x: u16) -> u8
     ensures { result ≡ needed_as operand x }
 {
     match operand {
-        Operand::Unused => 64,
-        Operand::Now(_) => x,
-        Operand::Before(_) => 64,
+        Operand::Now(_) => x.min(64) as u8,
+        Operand::Unused | Operand::Before(_) => NO_STREAM,
     }
 }
 
-// What a record needs now, its three operands as one number.
-fn needs_of(r: Record) -> usize
-    ensures { result ≡ packed_needs r }
+// What a record needs now, by the operator's row.
+#[tactic(auto, unfolding(crate::specs::Ordering::needs_in))]
+fn needs_of(r: Record) -> Needs
+    ensures { result ≡ needs_in r }
 {
     let row = row_of(r.op);
-    let a = row.a;
-    let b = row.b;
-    let c = row.c;
-    let first = needed(a, r.a) as usize;
-    let second = needed(b, r.b) as usize;
-    let third = needed(c, r.c) as usize;
-    first + 128 * second + 16384 * third
+    Needs {
+        a: needed(row.a, r.a),
+        b: needed(row.b, r.b),
+        c: needed(row.c, r.c),
+    }
 }
 
 // What each of n records needs now.
-fn needs_of_all(file: &[u8], n: usize) -> [usize; 64]
+fn needs_of_all(file: &[u8], n: usize) -> [Needs; 64]
     requires { (n ≡ records_of file.now) × (n ≤ 64) }
     ensures { HoldNeeds file.now n result }
 {
-    let mut needs = [0usize; 64];
-    let mut i = 0;
-    while i < n {
+    let mut needs = [Needs {
+        a: NO_STREAM,
+        b: NO_STREAM,
+        c: NO_STREAM,
+    }; 64];
+    for i in 0..n {
         needs[i] = needs_of(record_among(file, n, i));
-        i += 1;
     }
     needs
 }
 
-// The parts of what a record needs now, one operand each.
-fn first_of(operands: usize) -> usize
-    ensures { result ≡ first_part operands }
-{
-    operands % 128
-}
-
-fn second_of(operands: usize) -> usize
-    ensures { result ≡ second_part operands }
-{
-    operands / 128 % 128
-}
-
-fn third_of(operands: usize) -> usize
-    ensures { result ≡ third_part operands }
-{
-    operands / 16384 % 128
-}
-
-// For each stream, the lowest of n records that needs it now.
-fn readers_of(needs: &[usize], n: usize) -> [usize; 128]
-    requires { (n ≤ 64) × (length needs.now ≡ 64) }
+// For each stream, the lowest of n records that needs it now, or n.
+fn readers_of(needs: &[Needs; 64], n: usize) -> [usize; 256]
+    requires { n ≤ 64 }
     ensures { HoldReaders needs.now n 0 result }
 {
-    let mut readers = [64usize; 128];
-    let mut i = n;
-    while 0 < i {
-        i -= 1;
-        let operands = needs[i];
-        readers[first_of(operands)] = i;
-        readers[second_of(operands)] = i;
-        readers[third_of(operands)] = i;
+    let mut readers = [n; 256];
+    for i in (0..n).rev() {
+        let record = needs[i];
+        readers[record.a as usize] = i;
+        readers[record.b as usize] = i;
+        readers[record.c as usize] = i;
     }
     readers
 }
 
-// Whether stream x is placed.
-fn is_placed(flags: &[u8], x: usize) -> bool
-    requires { x < length flags.now }
-    ensures { result ≡ is_flagged flags.now x }
-{
-    flags[x] == 1
-}
-
 // Whether record i can be placed next.
-fn is_ready(flags: &[u8], needs: &[usize], i: usize) -> bool
-    requires { (length flags.now ≡ 128) × (i < 64) × (length needs.now ≡ 64) }
-    ensures { result ≡ ready_by flags.now needs.now i }
+#[tactic(auto, unfolding(crate::specs::Ordering::ready_by))]
+fn is_ready(placed: &[bool; 256], needs: &[Needs; 64], i: usize) -> bool
+    requires { i < 64 }
+    ensures { result ≡ ready_by placed.now needs.now i }
 {
-    if is_placed(flags, i) {
-        return false;
-    }
-    let operands = needs[i];
-    is_placed(flags, first_of(operands))
-        & is_placed(flags, second_of(operands))
-        & is_placed(flags, third_of(operands))
+    let record = needs[i];
+    !placed[i]
+        && placed[record.a as usize]
+        && placed[record.b as usize]
+        && placed[record.c as usize]
 }
 
 // The lowest of n records that can be placed next, where none below `start` can.
-fn lowest_ready(flags: &[u8], needs: &[usize], start: usize, n: usize) -> Found
-    requires { (n ≤ 64) × (length flags.now ≡ 128) × (length needs.now ≡ 64) × NoneReady flags.now needs.now start }
-    ensures { result ≡ lowest (λ i. not (ready_by flags.now needs.now i)) n }
+fn lowest_ready(placed: &[bool; 256], needs: &[Needs; 64], start: usize, n: usize) -> Option<usize>
+    requires { (n ≤ 64) × NoneReady placed.now needs.now start }
+    ensures found { result ≡ lowest (λ i. not (ready_by placed.now needs.now i)) n }
+    ensures below { IfSome result (λ i. i < n) }
 {
-    let mut i = start;
-    while i < n {
-        if is_ready(flags, needs, i) {
-            return Found::At(i);
-        }
-        i += 1;
-    }
-    Found::Nothing
+    (start..n).find(|i| is_ready(placed, needs, *i))
 }
 
 // The lowest of n records that is not placed.
-fn lowest_unplaced(flags: &[u8], n: usize) -> Found
-    requires { n ≤ length flags.now }
-    ensures { result ≡ lowest (is_flagged flags.now) n }
+fn lowest_unplaced(placed: &[bool; 256], n: usize) -> Option<usize>
+    requires { n ≤ 64 }
+    ensures { result ≡ lowest (is_placed placed.now) n }
 {
-    let mut x = 0;
-    while x < n {
-        if !is_placed(flags, x) {
-            return Found::At(x);
-        }
-        x += 1;
-    }
-    Found::Nothing
+    (0..n).find(|x| !placed[*x])
 }
 
 // Where the search goes on once record i is placed: at the lowest record that needs it, where that is below, else behind it. No other
@@ -197,32 +148,37 @@ fn next_start(i: usize, reader: usize) -> usize
     if reader < i { reader } else { i + 1 }
 }
 
-// The order by searching.
-pub fn searched_order(file: &[u8], n: usize) -> Order
+// The order, where each of n records is placed; else the lowest that is not.
+fn all_placed(streams: [usize; 64], placed: &[bool; 256], n: usize) -> Result<[usize; 64], usize>
+    requires { n ≤ 64 }
+    ensures unplaced_value { result_err result ≡ lowest (is_placed placed.now) n }
+    ensures streams_value { IfOk result (λ order. order ≡ streams) }
+{
+    match lowest_unplaced(placed, n) {
+        Some(i) => Err(i),
+        None => Ok(streams),
+    }
+}
+
+// The order by searching, or the lowest record that is never placed.
+pub fn searched_order(file: &[u8], n: usize) -> Result<[usize; 64], usize>
     requires { (n ≡ records_of file.now) × (n ≤ 64) × (every (passes_of file.now n Shape) n ≡ true) × (every (passes_of file.now n Operands) n ≡ true) }
-    ensures unplaced_value { result.unplaced ≡ never_placed (worked_out_order (equation_at file.now) n) n }
-    ensures streams_value { result.unplaced ≡ Nothing → take n result.streams ≡ worked_out_order (equation_at file.now) n }
+    ensures unplaced_value { result_err result ≡ never_placed (worked_out_order (equation_at file.now) n) n }
+    ensures streams_value { IfOk result (λ streams. take n streams ≡ worked_out_order (equation_at file.now) n) }
 {
     let needs = needs_of_all(file, n);
     let readers = readers_of(&needs, n);
     let mut streams = [0usize; 64];
-    let mut flags = NONE_PLACED;
+    let mut placed = [false; 256];
+    placed[NO_STREAM as usize] = true;
     let mut start = 0;
-    let mut k = 0;
-    while k < n {
-        let Found::At(i) = lowest_ready(&flags, &needs, start, n) else {
-            return Order {
-                streams,
-                unplaced: lowest_unplaced(&flags, n),
-            };
+    for k in 0..n {
+        let Some(i) = lowest_ready(&placed, &needs, start, n) else {
+            return all_placed(streams, &placed, n);
         };
         streams[k] = i;
-        flags[i] = 1;
+        placed[i] = true;
         start = next_start(i, readers[i]);
-        k += 1;
     }
-    Order {
-        streams,
-        unplaced: lowest_unplaced(&flags, n),
-    }
+    all_placed(streams, &placed, n)
 }

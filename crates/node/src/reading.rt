@@ -1,29 +1,29 @@
 // The verdict on a node file: rules 1 to 8 in order, with 23 between 6 and 7, each over all its records first.
-ghost use Rattle.std.specs.Prelude.{◌≡◌, true, ◌≤◌, take};
-ghost use Rattle.answers.specs.Answer.{node_answer, is_accepted};
+ghost use Rattle.std.specs.Prelude.{◌≡◌, ◌≤◌, take, IfOk};
+ghost use Rattle.answers.specs.Answer.{answer_map};
 ghost use Rattle.answers.specs.Checks.{lowest};
 ghost use Rattle.node.specs.Equations.{equation_at};
 ghost use Rattle.node.specs.Layout.{records_of, streams_of};
 ghost use Rattle.node.specs.Reads.{worked_out_order, order_of};
 ghost use Rattle.node.specs.Verdict.{passes_of, types_verdict, records_verdict, verdict_of};
 
-use crate::arrays::RECORD_ORDER;
 use crate::layout::{record_among, trailer_of, type_byte_among};
 use crate::ordering::{in_record_order, searched_order};
 use crate::refusals;
 use crate::rules::{
     counts_ok, distance_ok, fixed_ok, length_ok, operands_ok, property_ok, shape_ok, types_ok,
 };
-use answers::{Found, NodeVerdict, Place};
+use answers::{NodeValues, NodeVerdict, Place, Refusal, check, check_records, refused};
+use std::array;
 
-// The verdict on a node file, and its order: stream `order[k]` is worked out as number k. Of a refused file it says nothing.
+// An accepted node file read: what its answer carries, and its order: stream `order[k]` is worked out as number k.
 #[derive(Clone, Copy)]
 pub struct ReadNode {
-    pub verdict: NodeVerdict,
+    pub values: NodeValues,
     pub order: [usize; 64],
 }
 
-// The rules that each record is held to by itself.
+// The rules that each record is held to by itself. An enum and no closure, since the definitions and theorems speak of them (`passes_of`).
 #[derive(Clone, Copy)]
 pub enum RecordRule {
     Shape,
@@ -45,103 +45,72 @@ fn passes(file: &[u8], n: usize, rule: RecordRule, i: usize) -> bool
 }
 
 // The lowest record that breaks the rule.
-fn first_bad(file: &[u8], n: usize, rule: RecordRule) -> Found
+fn first_bad(file: &[u8], n: usize, rule: RecordRule) -> Option<usize>
     requires { n ≡ records_of file.now }
     ensures { result ≡ lowest (passes_of file.now n rule) n }
 {
-    let mut left = n;
-    while 0 < left {
-        let i = n - left;
-        if !passes(file, n, rule, i) {
-            return Found::At(i);
-        }
-        left -= 1;
-    }
-    Found::Nothing
-}
-
-// A refusal has no order.
-fn refused(number: usize, place: Place) -> ReadNode
-    ensures { result.verdict ≡ NodeVerdict.Refused number place }
-{
-    ReadNode {
-        verdict: NodeVerdict::Refused(number, place),
-        order: [0usize; 64],
-    }
+    (0..n).find(|i| !passes(file, n, rule, *i))
 }
 
 // Rules 7 and 8, of a file whose order is worked out.
-fn types_read(file: &[u8], n: usize, property: usize, order: [usize; 64]) -> ReadNode
+fn types_read(
+    file: &[u8],
+    n: usize,
+    property: usize,
+    order: [usize; 64],
+) -> Result<ReadNode, Refusal>
     requires { n ≡ records_of file.now }
-    ensures verdict_value { node_answer result.verdict ≡ types_verdict file.now n property }
-    ensures order_value { is_accepted (types_verdict file.now n property) ≡ true → result.order ≡ order }
+    ensures verdict_value { answer_map (λ node. node.values) result ≡ types_verdict file.now n property }
+    ensures order_value { IfOk result (λ node. node.order ≡ order) }
 {
-    if let Found::At(i) = first_bad(file, n, RecordRule::Types) {
-        return refused(refusals::TYPES, Place::Record(i));
-    }
-    if !property_ok(type_byte_among(file, n, property)) {
-        return refused(refusals::PROPERTY, Place::Record(property));
-    }
-    ReadNode {
-        verdict: NodeVerdict::Accepted {
-            streams: n,
-            property,
-        },
-        order,
-    }
+    check_records(first_bad(file, n, RecordRule::Types), refusals::TYPES)?;
+    check(
+        property_ok(type_byte_among(file, n, property)),
+        refusals::PROPERTY,
+        Place::Record(property),
+    )?;
+    let values = NodeValues {
+        streams: n,
+        property,
+    };
+    Ok(ReadNode { values, order })
 }
 
 // Rules 5 to 8 and 23, of a file whose trailer gives n and the property. Where each operand needed now is lower than its record, 6 and 23
 // hold.
-fn records_read(file: &[u8], n: usize, property: usize) -> ReadNode
+fn records_read(file: &[u8], n: usize, property: usize) -> Result<ReadNode, Refusal>
     requires { (n ≡ records_of file.now) × (n ≤ 64) }
-    ensures verdict_value { node_answer result.verdict ≡ records_verdict file.now n property }
-    ensures order_value { is_accepted (records_verdict file.now n property) ≡ true → take n result.order ≡ worked_out_order (equation_at file.now) n }
+    ensures verdict_value { answer_map (λ node. node.values) result ≡ records_verdict file.now n property }
+    ensures order_value { IfOk result (λ node. take n node.order ≡ worked_out_order (equation_at file.now) n) }
 {
-    if let Found::At(i) = first_bad(file, n, RecordRule::Shape) {
-        return refused(refusals::SHAPE, Place::Record(i));
-    }
+    check_records(first_bad(file, n, RecordRule::Shape), refusals::SHAPE)?;
     if in_record_order(file, n) {
-        return types_read(file, n, property, RECORD_ORDER);
+        return types_read(file, n, property, array::from_fn(|k| k));
     }
-    if let Found::At(i) = first_bad(file, n, RecordRule::Operands) {
-        return refused(refusals::OPERANDS, Place::Record(i));
+    check_records(first_bad(file, n, RecordRule::Operands), refusals::OPERANDS)?;
+    match searched_order(file, n) {
+        Ok(order) => types_read(file, n, property, order),
+        Err(i) => refused(refusals::ORDER, Place::Record(i)),
     }
-    let searched = searched_order(file, n);
-    let unplaced = searched.unplaced;
-    if let Found::At(i) = unplaced {
-        return refused(refusals::ORDER, Place::Record(i));
-    }
-    let order = searched.streams;
-    types_read(file, n, property, order)
 }
 
 // A node file read: the verdict, and of an accepted file the order of evaluation.
-pub fn read(file: &[u8]) -> ReadNode
-    ensures verdict_value { node_answer result.verdict ≡ verdict_of file.now }
-    ensures order_value { is_accepted (verdict_of file.now) ≡ true → take (streams_of file.now) result.order ≡ order_of file.now }
+pub fn read(file: &[u8]) -> Result<ReadNode, Refusal>
+    ensures verdict_value { answer_map (λ node. node.values) result ≡ verdict_of file.now }
+    ensures order_value { IfOk result (λ node. take (streams_of file.now) node.order ≡ order_of file.now) }
 {
     let size = file.len();
-    if !length_ok(size) {
-        return refused(refusals::LENGTH, Place::File);
-    }
+    check(length_ok(size), refusals::LENGTH, Place::File)?;
     let trailer = trailer_of(file);
-    if !fixed_ok(trailer) {
-        return refused(refusals::FIXED_BYTES, Place::File);
-    }
-    if !counts_ok(trailer) {
-        return refused(refusals::COUNTS, Place::File);
-    }
-    if !distance_ok(trailer, size) {
-        return refused(refusals::DISTANCE, Place::File);
-    }
+    check(fixed_ok(trailer), refusals::FIXED_BYTES, Place::File)?;
+    check(counts_ok(trailer), refusals::COUNTS, Place::File)?;
+    check(distance_ok(trailer, size), refusals::DISTANCE, Place::File)?;
     records_read(file, trailer.streams as usize, trailer.property as usize)
 }
 
 // The verdict on a node file.
 pub fn verdict(file: &[u8]) -> NodeVerdict
-    ensures { node_answer result ≡ verdict_of file.now }
+    ensures { result ≡ verdict_of file.now }
 {
-    let node = read(file);
-    node.verdict
+    Ok(read(file)?.values)
 }

@@ -42,6 +42,8 @@ pub struct Row {
     pub k: Limit,
 }
 
+// A constant calls no function, so each row is written out.
+
 // 0: input
 const INPUT: Row = Row {
     own: Wanted::Own,
@@ -154,6 +156,7 @@ const GREATER: Row = SUM;
 pub const OPERATORS: u8 = 16;
 
 // The row of an operator; past the table, that of an input.
+#[tactic(auto, unfolding(crate::specs::Table::row_of))]
 pub fn row_of(op: u8) -> Row
     ensures { result ≡ row_of op }
 {
@@ -182,9 +185,5 @@ pub fn row_of(op: u8) -> Row
 pub fn reads(operand: Operand) -> bool
     ensures { result ≡ reads_it operand }
 {
-    match operand {
-        Operand::Unused => false,
-        Operand::Now(_) => true,
-        Operand::Before(_) => true,
-    }
+    matches!(operand, Operand::Now(_) | Operand::Before(_))
 }

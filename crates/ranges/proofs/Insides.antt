@@ -1,16 +1,21 @@
--- One range, or two, inside another.
+-- One range, or two, inside another; an operator whose results have no range. `results_inside` names the ruleset.
 -- Assumes nothing.
-use mathlib.Core.Path.{◌≡◌}
+use mathlib.Core.Path.{◌≡◌, refl}
 use mathlib.Core.List.{[], ◌∷◌}
-use mathlib.Core.Bool.{◌&&◌, and-true}
+use mathlib.Core.Bool.{true, ◌&&◌, and-true}
 use Rattle.ranges.specs.declared.table.Range.{Range}
 use Rattle.ranges.specs.Results.{is_inside, all_inside}
 
-module _ (own : Range) where
-  pub one_inside : {x r : Range} → x ≡ r → is_inside own x ≡ all_inside own (r ∷ [])
-  unfolding all_inside
-  one_inside {x} {r} e = rw (e, and-true)
+pub none_inside : (own : Range) → all_inside own [] ≡ true
+unfolding all_inside
+none_inside own = refl
 
-  pub two_inside : {x y a b : Range} → x ≡ a → y ≡ b → (is_inside own x && is_inside own y) ≡ all_inside own (a ∷ b ∷ [])
-  unfolding all_inside
-  two_inside {x} {y} {a} {b} e f = rw (e, f, and-true)
+pub one_inside : (own r : Range) → all_inside own (r ∷ []) ≡ is_inside own r
+unfolding all_inside
+one_inside own r = rw and-true
+
+pub two_inside : (own a b : Range) → all_inside own (a ∷ b ∷ []) ≡ (is_inside own a && is_inside own b)
+unfolding all_inside
+two_inside own a b = rw and-true
+
+pub ruleset insides = (none_inside, one_inside, two_inside)

@@ -8,7 +8,8 @@ use borrow.Author.Tests.{eq-eqb, eqb-true}
 use lib.IntN.{ℤ}
 use Rattle.answers.specs.declared.Place.{Place}
 use Rattle.answers.specs.declared.Place.TheVariants.{File, Record as AtRecord}
-use Rattle.answers.specs.Answer.{Answer, accepted, refused, NodeValues}
+use Rattle.answers.specs.Answer.{Answer, accepted, refused}
+use Rattle.answers.specs.declared.NodeValues.{NodeValues}
 use Rattle.answers.specs.Checks.{and_then}
 use Rattle.answers.proofs.Checks.{by_check, by_check_all}
 use Rattle.answers.proofs.Every.{every_all, every_of}
@@ -19,6 +20,7 @@ use Rattle.node.proofs.Outcomes.{accepted_keeps, keeps_accepted}
 use Rattle.node.proofs.Outcomes as Node
 use Rattle.ranges.specs.Listing.{table_verdict, listing_of}
 use Rattle.ranges.specs.Outcome.{ListedRules, FirstFailure, in_node, at_71_size, at_71_ends, at_72, Says}
+use Rattle.std.specs.Prelude.{Err, Ok}
 
 module _ (file : List ℕ) (table : List ℤ) where
   of_table : NodeRules file → Says file table (table_verdict file table)
@@ -34,8 +36,8 @@ module _ (file : List ℕ) (table : List ℤ) where
   says = go (verdict_of file) refl
     where
       go : (a : Answer NodeValues) → verdict_of file ≡ a → Says file table (and_then a (table_verdict file table))
-      go (accepted node) e = of_table (accepted_keeps file e)
-      go (refused number place) e = in_node (Node.refused_first file e)
+      go (Ok node) e = of_table (accepted_keeps file e)
+      go (Err r) e = in_node (Node.refused_first file e)
 
   pub listed_keeps : listing_of file table ≡ accepted tt → ListedRules file table
   listed_keeps e = subst (Says file table) e says

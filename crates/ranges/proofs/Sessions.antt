@@ -15,11 +15,11 @@ use Rattle.integers.specs.Range.{inside}
 use Rattle.integers.proofs.Abs.{abs-≤, abs_fits}
 use Rattle.integers.proofs.Order.{≤ℤ-trans}
 use Rattle.integers.proofs.Within.{inside_fits}
-use Rattle.answers.specs.declared.Found.{Found}
-use Rattle.answers.specs.declared.Found.TheVariants.{At, Nothing}
 use Rattle.answers.specs.declared.Place.{Place}
+use Rattle.answers.specs.declared.Refusal.{Refusal}
 use Rattle.answers.specs.declared.Place.TheVariants.{File, Record as AtRecord}
-use Rattle.answers.specs.Answer.{Answer, accepted, refused, NodeValues}
+use Rattle.answers.specs.Answer.{Answer, accepted, refused}
+use Rattle.answers.specs.declared.NodeValues.{NodeValues}
 use Rattle.answers.specs.Checks.{lowest}
 use Rattle.answers.proofs.Checks.{by_check, by_check_all}
 use Rattle.answers.proofs.Lowest.{none}
@@ -54,6 +54,8 @@ use Rattle.ranges.proofs.Extents.{in_single}
 use Rattle.ranges.proofs.Outcomes.{listed_keeps}
 use Rattle.ranges.proofs.Staying.{solution_in}
 use Rattle.ranges.proofs.Tables.{ok_small}
+use Rattle.std.specs.Prelude.{None, Option, Some, option_map}
+use Rattle.std.specs.Result.{result_err}
 
 -- ---- 64 bits hold what lies in a range, and a bool
 
@@ -69,13 +71,13 @@ value_inside_is BoolType r z ok fits h = small_inside (range (pos 0) (pos 1)) z 
 value_inside_is IntType r z ok fits h = small_inside r z (ok_small IntType r ok) (h refl)
 
 -- where each value is inside, none is the first outside
-none_along : (file : List ℕ) {node : NodeValues} → verdict_of file ≡ accepted node → (ok : ℕ → Bool) → ((i : ℕ) → i < streams_of file → ok i ≡ true) → first_along (order_of file) ok ≡ Nothing
+none_along : (file : List ℕ) {node : NodeValues} → verdict_of file ≡ accepted node → (ok : ℕ → Bool) → ((i : ℕ) → i < streams_of file → ok i ≡ true) → first_along (order_of file) ok ≡ None
 unfolding first_of
 none_along file e ok h =
     let ordered = (accepted_well_formed file e).ordered in
     ap (at_place (order_of file)) (none (λ k. ok (get_or (order_of file) k 0)) (length (order_of file)) (λ k l. h (get_or (order_of file) k 0) (ordered.names k (omega (arith, ordered.size)))))
 
-nothing_found : {i : ℕ} → ¬ (Nothing ≡ At i)
+nothing_found : {i : ℕ} → ¬ (None ≡ Some i)
 nothing_found e = let n : ◌≡◌ {A = ℕ} 0 1 = cc in omega arith
 
 module _ (file : List ℕ) (table : List ℤ) (listed : ListedRules file table) where
@@ -127,17 +129,20 @@ module _ (file : List ℕ) (table : List ℤ) (listed : ListedRules file table) 
         call_inside : answer_to s c ≡ answer_inside file c
         call_inside = by (eqb (length c.inputs) (input_count file)) refl (lowest (input_typed file c.inputs) (streams_of file)) refl
           where
-            by : (b : Bool) → eqb (length c.inputs) (input_count file) ≡ b → (found : Found) → lowest (input_typed file c.inputs) (streams_of file) ≡ found → answer_to s c ≡ answer_inside file c
+            by : (b : Bool) → eqb (length c.inputs) (input_count file) ≡ b → (found : Option ℕ) → lowest (input_typed file c.inputs) (streams_of file) ≡ found → answer_to s c ≡ answer_inside file c
             by false e found f = untyped (λ is. false≢true (sym e ∙ typed_count file c.inputs is))
-            by true e (At i) f = untyped (λ is. nothing_found (sym (typed_inputs file c.inputs is) ∙ f))
-            by true e Nothing f =
+            by true e (Some i) f = untyped (λ is. nothing_found (sym (typed_inputs file c.inputs is) ∙ f))
+            by true e None f =
                 let judged = exact.judged (typed file is_node_is c e f) in
                 exact.answers judged.0 (λ is. judged.1)
                 ∙ answer_inside_is c (judged.0 (length done)) (next_inside judged.0 judged.1)
 
 -- 31 to 33 are not 34
 not_34 : {number : ℕ} {place other : Place} → number < 34 → ◌≡◌ {A = Answer (Unit {0})} (refused number place) (refused 34 other) → ⊥
-not_34 {number} l e = let n : number ≡ 34 = cc in omega arith
+not_34 {number} l e =
+    let numbers : Some number ≡ Some 34 = ap (λ (a : Answer (Unit {0})). option_map (λ (r : Refusal). r.number) (result_err a)) e in
+    let n : number ≡ 34 = cc in
+    omega arith
 
 never_34 : (file : List ℕ) (c : Call) (place : Place) → ¬ (answer_inside file c ≡ refused 34 place)
 never_34 file c place =

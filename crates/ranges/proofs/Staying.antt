@@ -9,7 +9,8 @@ use lib.IntN.{ℤ, ◌+ℤ◌}
 use Rattle.integers.specs.Range.{lesser, greater}
 use Rattle.integers.proofs.Extremes.{lesser_mono, greater_mono}
 use Rattle.integers.proofs.Order.{+ℤ-mono}
-use Rattle.answers.specs.Answer.{accepted, NodeValues}
+use Rattle.answers.specs.Answer.{accepted}
+use Rattle.answers.specs.declared.NodeValues.{NodeValues}
 use Rattle.answers.proofs.Tests.{both_true}
 use Rattle.node.specs.declared.equation.StreamType.{StreamType}
 use Rattle.node.specs.declared.equation.StreamType.TheVariants.{Bool as BoolType, Int as IntType}

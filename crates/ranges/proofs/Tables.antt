@@ -1,6 +1,6 @@
 -- What an accepted table gives: ends within the limits, the tests of 71 and 72 stream by stream.
 -- Assumes nothing.
-use mathlib.Core.Path.{◌≡◌, refl}
+use mathlib.Core.Path.{◌≡◌, refl, ap}
 use mathlib.Core.Bool.{Bool, true, false, ◌&&◌}
 use mathlib.Core.List.{List}
 use Prim.Native.Nat.{ℕ, ◌+◌, ◌*◌, ◌≤◌}
@@ -12,20 +12,22 @@ use lib.ListN.{length, get_or-eq_default}
 use lib.Signed.{le_z, ◌≤ℤ◌}
 use Rattle.integers.proofs.Abs.{abs-≤}
 use Rattle.integers.proofs.Order.{le_z_true, ≤ℤ-trans}
-use Rattle.answers.specs.declared.Found.{Found}
-use Rattle.answers.specs.declared.Place.TheVariants.{File, Record as AtRecord}
-use Rattle.answers.specs.Answer.{accepted, refused}
-use Rattle.answers.specs.Checks.{check_all, every, lowest}
+use Rattle.answers.specs.declared.NodeValues.{NodeValues}
+use Rattle.answers.specs.Answer.{accepted}
+use Rattle.answers.specs.Checks.{every}
 use Rattle.answers.proofs.Every.{every_all}
 use Rattle.answers.proofs.Tests.{both_true}
 use Rattle.node.specs.declared.equation.StreamType.{StreamType}
 use Rattle.node.specs.declared.equation.StreamType.TheVariants.{Bool as BoolType, Int as IntType}
 use Rattle.node.specs.Equations.{type_at, equation_at}
 use Rattle.node.specs.Layout.{streams_of}
+use Rattle.node.specs.Verdict.{verdict_of}
+use Rattle.node.proofs.Notes.{accepted_sizes}
+use Rattle.node.proofs.Outcomes.{accepted_values}
 use Rattle.streams.specs.Values.{equals, values_in}
 use Rattle.streams.proofs.Numbers.{equals_true}
 use Rattle.ranges.specs.declared.table.Range.{Range}
-use Rattle.ranges.specs.Listing.{ends_ok, results_ok, table_verdict}
+use Rattle.ranges.specs.Listing.{length_ok, ends_ok, results_ok}
 use Rattle.ranges.specs.Results.{ends, all_inside}
 use Rattle.ranges.specs.Table.{range_in, range_ok, SmallEnds, AllSmall}
 
@@ -40,21 +42,22 @@ module _ (file : List ℕ) (table : List ℤ) (i : ℕ) where
   unfolding results_ok
   int_listed e = rw e
 
--- what the checks of a table give, by their tests
+-- an accepted node's streams are those of its file, and no more than 64
 
-module _ (file : List ℕ) (table : List ℤ) (n : ℕ) (n_is : n ≡ streams_of file) where
-  pub wrong_length : eqb (length table) (2 * n) ≡ false → table_verdict file table ≡ refused 71 File
-  unfolding table_verdict
-  wrong_length size = rw (← n_is, size)
+module _ (file : List ℕ) {node : NodeValues} (e : verdict_of file ≡ accepted node) where
+  pub listed_streams : node.streams ≡ streams_of file
+  listed_streams = ap (λ (v : NodeValues). v.streams) (accepted_values file e)
 
-  module _ (size : eqb (length table) (2 * n) ≡ true) where
-    pub wrong_ends : every (ends_ok file table) n ≡ false → table_verdict file table ≡ refused 71 File
-    unfolding table_verdict
-    wrong_ends ok = rw (← n_is, size, ok)
+  pub few_streams : node.streams ≤ 64
+  few_streams = rw listed_streams (accepted_sizes file e).few
 
-    pub by_results : every (ends_ok file table) n ≡ true → {found : Found} → lowest (results_ok file table) n ≡ found → table_verdict file table ≡ check_all found 72 AtRecord (accepted tt)
-    unfolding table_verdict
-    by_results ok found = rw (← n_is, size, ok, found)
+  -- 71's tests by the count that the reader gives
+  module _ (table : List ℤ) where
+    pub length_test : eqb (length table) (2 * node.streams) ≡ length_ok file table
+    length_test = ap (λ (n : ℕ). eqb (length table) (2 * n)) listed_streams
+
+    pub ends_test : every (ends_ok file table) node.streams ≡ every (ends_ok file table) (streams_of file)
+    ends_test = ap (every (ends_ok file table)) listed_streams
 
 -- ends that 71 passes
 

@@ -1,9 +1,9 @@
 -- The rules of a listed node one by one: what a listed one keeps, and what a refusal says. Both are proved of every answer
 -- (proofs/Outcomes.antt).
-use Rattle.std.specs.Prelude.{ℕ, ◌*◌, ◌<◌, ◌≡◌, List, true, ℤ, length}
+use Rattle.std.specs.Prelude.{ℕ, ◌*◌, ◌<◌, ◌≡◌, List, true, ℤ, length, Err, Ok}
 use Rattle.answers.specs.declared.Place.{Place}
 use Rattle.answers.specs.declared.Place.TheVariants.{File, Record as AtRecord}
-use Rattle.answers.specs.Answer.{Answer, accepted, refused}
+use Rattle.answers.specs.Answer.{Answer}
 use Rattle.answers.specs.Checks.{Lowest}
 use Rattle.node.specs.Layout.{streams_of}
 use Rattle.node.specs.Outcome.{NodeRules}
@@ -32,5 +32,5 @@ pub data FirstFailure (file : List ℕ) (table : List ℤ) : (number : ℕ) → 
 
 -- what each answer to a node and its table says
 abbrev pub Says : (file : List ℕ) → (table : List ℤ) → Answer (Unit {0}) → Type 0
-Says file table (accepted _) = ListedRules file table
-Says file table (refused number place) = FirstFailure file table number place
+Says file table (Ok _) = ListedRules file table
+Says file table (Err r) = FirstFailure file table r.number r.place

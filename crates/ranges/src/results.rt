@@ -9,26 +9,38 @@ use integers::{greater, lesser};
 use node::Equation;
 
 // Whether a range lies inside another.
+#[tactic(auto, unfolding(crate::specs::Results::is_inside))]
 fn is_inside(outer: Range, inner: Range) -> bool
     ensures { result ≡ is_inside outer inner }
 {
-    (outer.least <= inner.least) & (inner.greatest <= outer.greatest)
+    outer.least <= inner.least && inner.greatest <= outer.greatest
 }
 
 fn are_inside(outer: Range, a: Range, b: Range) -> bool
     ensures { result ≡ (is_inside outer a && is_inside outer b) }
 {
-    is_inside(outer, a) & is_inside(outer, b)
+    is_inside(outer, a) && is_inside(outer, b)
 }
 
 // K
 fn constant(k: i32) -> Range
     ensures { result ≡ single k }
 {
-    let k = k as i64;
+    let k = i64::from(k);
     Range {
         least: k,
         greatest: k,
+    }
+}
+
+// The results of an operator that rise with both operands: the least are of the least ends, and the greatest of the greatest.
+fn rising<F: Fn(i64, i64) -> i64>(op: F, a: Range, b: Range) -> Range
+    requires { F.pre op a.least b.least × F.pre op a.greatest b.greatest }
+    ensures { F.post op a.least b.least result.least × F.post op a.greatest b.greatest result.greatest }
+{
+    Range {
+        least: op(a.least, b.least),
+        greatest: op(a.greatest, b.greatest),
     }
 }
 
@@ -37,10 +49,7 @@ fn sum(a: Range, b: Range) -> Range
     requires { SmallEnds a × SmallEnds b }
     ensures { result ≡ sum_of a b }
 {
-    Range {
-        least: a.least + b.least,
-        greatest: a.greatest + b.greatest,
-    }
+    rising(|x, y| x + y, a, b)
 }
 
 // a - b
@@ -55,11 +64,12 @@ fn difference(a: Range, b: Range) -> Range
 }
 
 // K * a
+#[tactic(auto, unfolding(crate::specs::Results::multiple_of))]
 fn multiple(k: i32, a: Range) -> Range
     requires { SmallEnds a }
     ensures { result ≡ multiple_of k a }
 {
-    let k = k as i64;
+    let k = i64::from(k);
     let x = k * a.least;
     let y = k * a.greatest;
     if 0 <= k {
@@ -79,53 +89,48 @@ fn multiple(k: i32, a: Range) -> Range
 fn lesser_of(a: Range, b: Range) -> Range
     ensures { result ≡ lesser_of a b }
 {
-    Range {
-        least: lesser(a.least, b.least),
-        greatest: lesser(a.greatest, b.greatest),
-    }
+    rising(lesser, a, b)
 }
 
 // greater of a and b
 fn greater_of(a: Range, b: Range) -> Range
     ensures { result ≡ greater_of a b }
 {
-    Range {
-        least: greater(a.least, b.least),
-        greatest: greater(a.greatest, b.greatest),
-    }
+    rising(greater, a, b)
 }
 
 // The range of an operand.
 fn of(table: &[i64], s: u16) -> Range
     ensures { result ≡ range_in table.now s }
 {
-    range_at(table, s as usize)
+    range_at(table, usize::from(s))
 }
 
 // 72, of an int stream: the results of its operator lie inside its range.
+#[tactic(auto, using(crate::proofs::Insides::insides))]
 pub fn results_inside(own: Range, e: Equation, table: &[i64]) -> bool
     requires { AllSmall table.now }
     ensures { result ≡ all_inside own (ends e (range_in table.now)) }
 {
     match e {
-        Equation::Input => true,
+        Equation::Input
+        | Equation::Not(_)
+        | Equation::And(_, _)
+        | Equation::Or(_, _)
+        | Equation::Same(_, _)
+        | Equation::AtMost(_, _)
+        | Equation::Equal(_, _) => true,
         Equation::Constant(k) => is_inside(own, constant(k)),
-        Equation::Not(_) => true,
-        Equation::And(_, _) => true,
-        Equation::Or(_, _) => true,
-        Equation::Same(_, _) => true,
         Equation::Sum(a, b) => is_inside(own, sum(of(table, a), of(table, b))),
         Equation::Difference(a, b) => is_inside(own, difference(of(table, a), of(table, b))),
         Equation::Multiple(k, a) => is_inside(own, multiple(k, of(table, a))),
-        Equation::AtMost(_, _) => true,
-        Equation::Equal(_, _) => true,
         Equation::If {
-            condition: _,
-            then,
-            otherwise,
-        } => are_inside(own, of(table, then), of(table, otherwise)),
-        Equation::Arrow(a, b) => are_inside(own, of(table, a), of(table, b)),
-        Equation::FollowedBy(a, b) => are_inside(own, of(table, a), of(table, b)),
+            then: a,
+            otherwise: b,
+            ..
+        }
+        | Equation::Arrow(a, b)
+        | Equation::FollowedBy(a, b) => are_inside(own, of(table, a), of(table, b)),
         Equation::Lesser(a, b) => is_inside(own, lesser_of(of(table, a), of(table, b))),
         Equation::Greater(a, b) => is_inside(own, greater_of(of(table, a), of(table, b))),
     }

@@ -1,6 +1,5 @@
 // The table of ranges: "two ends a stream".
-ghost use Rattle.std.specs.Prelude.{◌≤◌, ◌≡◌, pos};
-ghost use Rattle.streams.specs.Values.{equals};
+ghost use Rattle.std.specs.Prelude.{◌≤◌, ◌≡◌};
 ghost use Rattle.ranges.specs.Table.{range_in, range_ok};
 
 use node::StreamType;
@@ -14,7 +13,7 @@ pub struct Range {
 }
 
 // "±4,000,000,000"
-const LARGEST: i64 = 4000000000;
+const LARGEST: i64 = 4_000_000_000;
 
 // The range of stream i; past the table's end, 0 to 0.
 pub fn range_at(table: &[i64], i: usize) -> Range
@@ -27,20 +26,13 @@ pub fn range_at(table: &[i64], i: usize) -> Range
     }
 }
 
-fn is_zero(x: i64) -> bool
-    ensures { result ≡ equals x (pos 0) }
-{
-    (x <= 0) & (0 <= x)
-}
-
 // 71, of a stream's two ends.
+#[tactic(auto, unfolding(crate::specs::Table::range_ok))]
 pub fn range_ok(ty: StreamType, r: Range) -> bool
     ensures { result ≡ range_ok ty r }
 {
     match ty {
-        StreamType::Bool => is_zero(r.least) & is_zero(r.greatest),
-        StreamType::Int => (-LARGEST <= r.least)
-            & (r.least <= r.greatest)
-            & (r.greatest <= LARGEST),
+        StreamType::Bool => r.least == 0 && r.greatest == 0,
+        StreamType::Int => -LARGEST <= r.least && r.least <= r.greatest && r.greatest <= LARGEST,
     }
 }

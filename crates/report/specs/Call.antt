@@ -1,7 +1,7 @@
 -- The line that is printed for a call of a session: its values, or its refusal and then whether the slice still holds its sevens.
-use Rattle.std.specs.Prelude.{ℕ, Bool, true, false, cond, List, [], ◌∷◌, ◌++◌, eqb, ℤ, pos, negsuc, nat_abs}
+use Rattle.std.specs.Prelude.{ℕ, Bool, true, false, cond, List, [], ◌∷◌, ◌++◌, eqb, ℤ, pos, negsuc, nat_abs, Err, Ok}
 use Rattle.std.specs.Int.Signed.{lt_z}
-use Rattle.answers.specs.Answer.{Answer, accepted, refused}
+use Rattle.answers.specs.Answer.{Answer}
 use Rattle.answers.specs.declared.Place.{Place}
 use Rattle.report.specs.Decimal.{decimal}
 use Rattle.report.specs.Line.{refused_text}
@@ -37,5 +37,5 @@ abbrev pub not_answered_text : (number : ℕ) → Place → (slice : List ℤ) �
 not_answered_text number place slice = refused_text number place ++ kept_text slice
 
 unfoldable pub call_line : Answer (Unit {0}) → (slice : List ℤ) → List ℕ
-call_line (accepted a) slice = answered_text slice
-call_line (refused number place) slice = not_answered_text number place slice
+call_line (Ok a) slice = answered_text slice
+call_line (Err r) slice = not_answered_text r.number r.place slice

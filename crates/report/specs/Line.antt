@@ -1,10 +1,11 @@
 -- The line of an answer: "verdict, depth and the trailer's line counts: `accepted depth 1 base 12 step 12`. A refusal
 -- prints as `refused 19 line 4`; either is one line ended by 0x0A; places are `file`, `record N`, `constraint N`, `line N`,
 -- `base`, `step`."
-use Rattle.std.specs.Prelude.{◌≡◌, ℕ, ◌≤◌, List, ◌++◌, length, take, drop}
+use Rattle.std.specs.Prelude.{◌≡◌, ℕ, ◌≤◌, List, ◌++◌, length, take, drop, Err, Ok}
 use Rattle.answers.specs.declared.Place.{Place}
 use Rattle.answers.specs.declared.Place.TheVariants.{File, Record, Constraint, Line, Base, Step}
-use Rattle.answers.specs.Answer.{Answer, accepted, refused, CertificateValues}
+use Rattle.answers.specs.Answer.{Answer}
+use Rattle.answers.specs.declared.CertificateValues.{CertificateValues}
 use Rattle.report.specs.Decimal.{decimal}
 use Rattle.report.specs.Words.{accepted_depth, base_count, step_count, refused_rule, at_file, at_record, at_constraint, at_line, at_base, at_step, newline}
 
@@ -28,8 +29,8 @@ refused_text number place = (refused_rule ++ decimal number) ++ place_text place
 
 -- either is one line, ended by 0x0A
 unfoldable pub line_of : Answer CertificateValues → List ℕ
-line_of (accepted v) = accepted_text v.depth v.base v.step ++ newline
-line_of (refused number place) = refused_text number place ++ newline
+line_of (Ok v) = accepted_text v.depth v.base v.step ++ newline
+line_of (Err r) = refused_text r.number r.place ++ newline
 
 -- a buffer once text is its leading bytes: the text, then what the buffer held past that
 abbrev pub overwritten : (text old : List ℕ) → List ℕ

@@ -1,14 +1,12 @@
 // The line of a call of a session, from the start of a buffer of at least 1,440 bytes on. None is longer than 1,439: `answered`, 65
 // values of at most 22 bytes, and the end.
 ghost use Rattle.std.specs.Prelude.{◌+◌, ◌*◌, ◌≤◌, ◌≡◌, length};
-ghost use Rattle.answers.specs.Answer.{instant_answer};
 ghost use Rattle.report.specs.Call.{signed_text, values_text, is_kept, kept_text, answered_text, not_answered_text, call_line};
 ghost use Rattle.report.specs.Written.{Written};
 
 use crate::lines::put_refusal;
 use crate::text::{put, put_field};
-use answers::{InstantVerdict, Place};
-use integers::magnitude;
+use answers::{InstantVerdict, Refusal};
 
 // What a slice holds before each call, so that its line can say whether a refusal kept it.
 pub const MARK: i64 = 7;
@@ -18,7 +16,7 @@ fn put_signed(out: &mut [u8], at: usize, x: i64) -> usize
     requires { at + 22 ≤ length out.old }
     ensures { (Written out.old at (signed_text x) out.new result) × (result ≤ at + 22) }
 {
-    let n = magnitude(x) as usize;
+    let n = x.unsigned_abs() as usize;
     if x < 0 {
         put_field(out, at, b" -", n)
     } else {
@@ -32,10 +30,8 @@ fn put_values(out: &mut [u8], at: usize, values: &[i64]) -> usize
         × (result ≤ at + 22 * length values.now) }
 {
     let mut past = at;
-    let mut i = 0;
-    while i < values.len() {
-        past = put_signed(out, past, values[i]);
-        i += 1;
+    for x in values {
+        past = put_signed(out, past, *x);
     }
     past
 }
@@ -43,14 +39,7 @@ fn put_values(out: &mut [u8], at: usize, values: &[i64]) -> usize
 fn is_kept(slice: &[i64]) -> bool
     ensures { result ≡ is_kept slice.now }
 {
-    let mut i = 0;
-    while i < slice.len() {
-        if slice[i] != MARK {
-            return false;
-        }
-        i += 1;
-    }
-    true
+    slice.iter().all(|&x| x == MARK)
 }
 
 fn put_kept(out: &mut [u8], at: usize, slice: &[i64]) -> usize
@@ -73,22 +62,22 @@ fn put_answered(out: &mut [u8], values: &[i64]) -> usize
     put(out, past_values, b"\n")
 }
 
-fn put_not_answered(out: &mut [u8], number: usize, place: Place, slice: &[i64]) -> usize
+fn put_not_answered(out: &mut [u8], refusal: Refusal, slice: &[i64]) -> usize
     requires { 1440 ≤ length out.old }
-    ensures { (Written out.old 0 (not_answered_text number place slice.now) out.new result)
+    ensures { (Written out.old 0 (not_answered_text refusal.number refusal.place slice.now) out.new result)
         × (result ≤ 1440) }
 {
-    let past = put_refusal(out, number, place);
+    let past = put_refusal(out, refusal);
     put_kept(out, past, slice)
 }
 
 pub fn put_call(out: &mut [u8], answer: InstantVerdict, slice: &[i64]) -> usize
     requires { (1440 ≤ length out.old) × (length slice.now ≤ 65) }
-    ensures { (Written out.old 0 (call_line (instant_answer answer) slice.now) out.new result)
+    ensures { (Written out.old 0 (call_line answer slice.now) out.new result)
         × (result ≤ 1440) }
 {
     match answer {
-        InstantVerdict::Answered => put_answered(out, slice),
-        InstantVerdict::Refused(number, place) => put_not_answered(out, number, place, slice),
+        Ok(()) => put_answered(out, slice),
+        Err(refusal) => put_not_answered(out, refusal, slice),
     }
 }

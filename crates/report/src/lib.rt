@@ -1,8 +1,8 @@
-// The line that a program prints for a verdict on a certificate, and for a call of a session.
+// The line that a program prints for a verdict on a certificate, and for a call of a session. A `Display` would promise its text only where
+// the write is Ok; these lines are always written.
 #![tactic(auto)]
 
 ghost use Rattle.std.specs.Prelude.{◌≡◌, length, take};
-ghost use Rattle.answers.specs.Answer.{certificate_answer, instant_answer};
 ghost use Rattle.report.specs.Call.{call_line};
 ghost use Rattle.report.specs.Line.{line_of, overwritten, Leading};
 
@@ -10,21 +10,21 @@ use answers::{CertificateVerdict, InstantVerdict};
 
 mod calls;
 mod lines;
+mod say;
 mod text;
 
 pub use calls::MARK;
+pub use say::say_verdict;
 
 // The verdict's line, ended by 0x0A, as the leading bytes of the buffer; how long it is is handed back. The longest has 88.
 pub fn write_line(verdict: CertificateVerdict, out: &mut [u8; 96]) -> usize
-    ensures value { (result ≡ length (line_of (certificate_answer verdict)))
-        × (out.new ≡ overwritten (line_of (certificate_answer verdict)) out.old) }
+    ensures value { (result ≡ length (line_of verdict))
+        × (out.new ≡ overwritten (line_of verdict) out.old) }
     ensures leading { Leading result out.new }
 {
     match verdict {
-        CertificateVerdict::Accepted { depth, base, step } => {
-            lines::put_accepted(out, depth, base, step)
-        }
-        CertificateVerdict::Refused(number, place) => lines::put_refused(out, number, place),
+        Ok(values) => lines::put_accepted(out, values),
+        Err(refusal) => lines::put_refused(out, refusal),
     }
 }
 
@@ -36,13 +36,9 @@ pub fn write_call(
     room: usize,
     out: &mut [u8; 1440],
 ) -> usize
-    ensures value { (result ≡ length (call_line (instant_answer answer) (take room slice)))
-        × (out.new ≡ overwritten (call_line (instant_answer answer) (take room slice)) out.old) }
+    ensures value { (result ≡ length (call_line answer (take room slice)))
+        × (out.new ≡ overwritten (call_line answer (take room slice)) out.old) }
     ensures leading { Leading result out.new }
 {
-    if room < 65 {
-        calls::put_call(out, answer, &slice[..room])
-    } else {
-        calls::put_call(out, answer, &slice)
-    }
+    calls::put_call(out, answer, &slice[..room.min(65)])
 }

@@ -5,35 +5,35 @@ ghost use Rattle.report.specs.Words.{newline};
 ghost use Rattle.report.specs.Written.{Written};
 
 use crate::text::{put, put_field};
-use answers::Place;
+use answers::{CertificateValues, Place, Refusal};
 
-pub fn put_accepted(out: &mut [u8], depth: usize, base: usize, step: usize) -> usize
+pub fn put_accepted(out: &mut [u8], values: CertificateValues) -> usize
     requires { 96 ≤ length out.old }
-    ensures { (Written out.old 0 (accepted_text depth base step ++ newline) out.new result)
+    ensures { (Written out.old 0 (accepted_text values.depth values.base values.step ++ newline) out.new result)
         × (result ≤ 96) }
 {
-    let past_depth = put_field(out, 0, b"accepted depth ", depth);
-    let past_base = put_field(out, past_depth, b" base ", base);
-    let past_step = put_field(out, past_base, b" step ", step);
+    let past_depth = put_field(out, 0, b"accepted depth ", values.depth);
+    let past_base = put_field(out, past_depth, b" base ", values.base);
+    let past_step = put_field(out, past_base, b" step ", values.step);
     put(out, past_step, b"\n")
 }
 
-pub fn put_refused(out: &mut [u8], number: usize, place: Place) -> usize
+pub fn put_refused(out: &mut [u8], refusal: Refusal) -> usize
     requires { 96 ≤ length out.old }
-    ensures { (Written out.old 0 (refused_text number place ++ newline) out.new result)
+    ensures { (Written out.old 0 (refused_text refusal.number refusal.place ++ newline) out.new result)
         × (result ≤ 96) }
 {
-    let past = put_refusal(out, number, place);
+    let past = put_refusal(out, refusal);
     put(out, past, b"\n")
 }
 
 // A refusal's number and place, with no end of line.
-pub fn put_refusal(out: &mut [u8], number: usize, place: Place) -> usize
+pub fn put_refusal(out: &mut [u8], refusal: Refusal) -> usize
     requires { 60 ≤ length out.old }
-    ensures { (Written out.old 0 (refused_text number place) out.new result) × (result ≤ 60) }
+    ensures { (Written out.old 0 (refused_text refusal.number refusal.place) out.new result) × (result ≤ 60) }
 {
-    let past_number = put_field(out, 0, b"refused ", number);
-    put_place(out, past_number, place)
+    let past_number = put_field(out, 0, b"refused ", refusal.number);
+    put_place(out, past_number, refusal.place)
 }
 
 // A place has at most 32 bytes.

@@ -7,9 +7,9 @@ use mathlib.Core.Bool.{Bool, true, false, not, or-false}
 use Prim.Native.Nat.{ℕ}
 use native.Mathlib.Omega.{arith}
 use lib.IntN.{ℤ, pos, neg_ℤ, ◌+ℤ◌, ◌*ℤ◌}
-use lib.Signed.{le_z, ◌≤ℤ◌, ◌<ℤ◌}
-use Rattle.integers.proofs.Diff.{zify, by_diff2, by_diff3}
-use Rattle.integers.proofs.Order.{≤ℤ_refl, le_z_true, le_z_false}
+use lib.Signed.{le_z}
+use Rattle.std.proofs.lemmas.Int.{ints}
+use Rattle.integers.proofs.Order.{le_z_self, le_z_true}
 use Rattle.integers.proofs.Ring.{negℤ-*ℤ}
 use Rattle.node.specs.declared.equation.StreamType.{StreamType}
 use Rattle.node.specs.declared.equation.StreamType.TheVariants.{Bool as BoolType, Int as IntType}
@@ -35,24 +35,12 @@ all_map P Q f step (x ∷ xs) ps = (step x ps.0, all_map P Q f step xs ps.1)
 abbrev difference : ℤ → ℤ → ℤ
 difference x y = pos 1 *ℤ x +ℤ (neg_ℤ (pos 1) *ℤ y +ℤ (pos 0 *ℤ x +ℤ pos 0))
 
-at_most : (x y : ℤ) → x ≤ℤ y → difference x y ≤ℤ pos 0
-at_most = by_diff2 _ (λ p q r s. simp zify (omega arith))
-
-not_at_most : (x y : ℤ) → y <ℤ x → pos 0 <ℤ difference x y
-not_at_most = by_diff2 _ (λ p q r s. simp zify (omega arith))
-
-below : (x y : ℤ) → x <ℤ y → difference x y ≤ℤ neg_ℤ (pos 1)
-below = by_diff2 _ (λ p q r s. simp zify (omega arith))
-
-not_below : (x y : ℤ) → y ≤ℤ x → neg_ℤ (pos 1) <ℤ difference x y
-not_below = by_diff2 _ (λ p q r s. simp zify (omega arith))
-
 -- s − a − b is at most k, and a + b − s at most −k, where s is a + b + k
-upper : (a b k : ℤ) → (pos 1 *ℤ (a +ℤ b +ℤ k) +ℤ (neg_ℤ a +ℤ (neg_ℤ b +ℤ pos 0))) ≤ℤ k
-upper = by_diff3 _ (λ p q r s t u. simp zify (omega arith))
+upper : (a b k : ℤ) → le_z (pos 1 *ℤ (a +ℤ b +ℤ k) +ℤ (neg_ℤ a +ℤ (neg_ℤ b +ℤ pos 0))) k ≡ true
+upper a b k = (le_z_true _ k).1 (omega (arith, ints))
 
-lower : (a b k : ℤ) → (neg_ℤ (pos 1) *ℤ (a +ℤ b +ℤ k) +ℤ (a +ℤ (b +ℤ pos 0))) ≤ℤ neg_ℤ k
-lower = by_diff3 _ (λ p q r s t u. simp zify (omega arith))
+lower : (a b k : ℤ) → le_z (neg_ℤ (pos 1) *ℤ (a +ℤ b +ℤ k) +ℤ (a +ℤ (b +ℤ pos 0))) (neg_ℤ k) ≡ true
+lower a b k = (le_z_true _ (neg_ℤ k)).1 (omega (arith, ints))
 
 -- a clause of one or two literals
 abbrev Short : Clause → Type 0
@@ -68,16 +56,16 @@ module _ (w : Valuation) where
   most_is x y = go (le_z (w x) (w y)) refl
     where
       go : (t : Bool) → le_z (w x) (w y) ≡ t → le_z (difference (w x) (w y)) (pos 0) ≡ t
-      go true e = (le_z_true (difference (w x) (w y)) (pos 0)).1 (at_most (w x) (w y) ((le_z_true (w x) (w y)).0 e))
-      go false e = (le_z_false (difference (w x) (w y)) (pos 0)).1 (not_at_most (w x) (w y) ((le_z_false (w x) (w y)).0 e))
+      go true e = grind (arith, ints)
+      go false e = grind (arith, ints)
 
   pub less_is : (x y : ℕ) → pattern_true w (less x y) ≡ not (le_z (w y) (w x))
   unfolding pattern_true
   less_is x y = go (le_z (w y) (w x)) refl
     where
       go : (t : Bool) → le_z (w y) (w x) ≡ t → le_z (difference (w x) (w y)) (neg_ℤ (pos 1)) ≡ not t
-      go true e = (le_z_false (difference (w x) (w y)) (neg_ℤ (pos 1))).1 (not_below (w x) (w y) ((le_z_true (w y) (w x)).0 e))
-      go false e = (le_z_true (difference (w x) (w y)) (neg_ℤ (pos 1))).1 (below (w x) (w y) ((le_z_false (w y) (w x)).0 e))
+      go true e = grind (arith, ints)
+      go false e = grind (arith, ints)
 
   -- ---- one stream equal to another
 
@@ -90,7 +78,7 @@ module _ (w : Valuation) where
       go true f = rw (e, f) (refl, (refl, tt))
       go false f = rw (e, f) (refl, (refl, tt))
   same_true IntType s t e =
-      rw (most_is s t, most_is t s, e, (le_z_true (w t) (w t)).1 (≤ℤ_refl (w t))) (refl, (refl, tt))
+      rw (most_is s t, most_is t s, e, le_z_self (w t)) (refl, (refl, tt))
 
   -- ---- a literal in front of a clause
 
@@ -117,5 +105,5 @@ module _ (w : Valuation) where
   pub equal_true : (s : ℕ) (a : ℤ) (x : ℕ) (b : ℤ) (y : ℕ) (k : ℤ) → w s ≡ a *ℤ w x +ℤ b *ℤ w y +ℤ k → AllTrue w (equal_to s a x b y k)
   unfolding clause_true pattern_true
   equal_true s a x b y k e =
-      rw (e, negℤ-*ℤ a (w x), negℤ-*ℤ b (w y), (le_z_true _ k).1 (upper (a *ℤ w x) (b *ℤ w y) k), (le_z_true _ (neg_ℤ k)).1 (lower (a *ℤ w x) (b *ℤ w y) k))
+      rw (e, negℤ-*ℤ a (w x), negℤ-*ℤ b (w y), upper (a *ℤ w x) (b *ℤ w y) k, lower (a *ℤ w x) (b *ℤ w y) k)
       (refl, (refl, tt))

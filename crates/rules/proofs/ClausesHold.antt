@@ -10,7 +10,7 @@ use borrow.Author.Tests.{not-false}
 use lib.IntN.{ℤ, pos, neg_ℤ, ◌+ℤ◌, ◌-ℤ◌, ◌*ℤ◌}
 use lib.Signed.{le_z}
 use Rattle.integers.specs.Range.{lesser, greater}
-use Rattle.integers.proofs.Diff.{zify, by_diff2}
+use Rattle.std.proofs.lemmas.Int.{ints}
 use Rattle.integers.proofs.Order.{le_z_self, le_z_total}
 use Rattle.node.specs.declared.equation.StreamType.{StreamType}
 use Rattle.node.specs.declared.equation.StreamType.TheVariants.{Bool as BoolType, Int as IntType}
@@ -34,16 +34,16 @@ use Rattle.rules.proofs.ClauseForms.{AllTrue, most_is, less_is, same_true, guard
 -- ---- the sums of rows 1 and 6 to 8, as a·x + b·y + k
 
 constant_sum : (k z : ℤ) → k ≡ pos 0 *ℤ z +ℤ pos 0 *ℤ z +ℤ k
-constant_sum = by_diff2 _ (λ p q r s. simp zify (omega arith))
+constant_sum k z = omega (arith, ints)
 
 plain_sum : (x y : ℤ) → x +ℤ y ≡ pos 1 *ℤ x +ℤ pos 1 *ℤ y +ℤ pos 0
-plain_sum = by_diff2 _ (λ p q r s. simp zify (omega arith))
+plain_sum x y = omega (arith, ints)
 
 difference_sum : (x y : ℤ) → x -ℤ y ≡ pos 1 *ℤ x +ℤ neg_ℤ (pos 1) *ℤ y +ℤ pos 0
-difference_sum = by_diff2 _ (λ p q r s. simp zify (omega arith))
+difference_sum x y = omega (arith, ints)
 
 multiple_sum : (k x : ℤ) → k *ℤ x ≡ k *ℤ x +ℤ pos 0 *ℤ x +ℤ pos 0
-multiple_sum = by_diff2 _ (λ p q r s. simp zify (omega arith))
+multiple_sum k x = omega (arith, ints)
 
 -- what a place says of the instant, and of the operands one instant before
 abbrev pub PastAt : Version → Position → (first : Bool) → (past : Values) → (w : Valuation) → (back : ℕ → ℕ) → Equation → Type 0

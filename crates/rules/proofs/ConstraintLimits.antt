@@ -7,9 +7,7 @@ use native.Mathlib.Omega.{arith}
 use borrow.Author.Tests.{leb-true, ltb-true, lt-leb, eqb-true}
 use lib.Dec.{leb, eqb}
 use lib.IntN.{ℤ, pos, neg_ℤ, nat_abs}
-use lib.Signed.{le_z}
-use Rattle.integers.proofs.Abs.{abs-≤}
-use Rattle.integers.proofs.Order.{le_z_true}
+use Rattle.std.proofs.lemmas.Int.{ints}
 use Rattle.answers.specs.Checks.{every}
 use Rattle.answers.proofs.Every.{every_all}
 use Rattle.answers.proofs.Tests.{both_true}
@@ -24,9 +22,7 @@ use Rattle.rules.specs.Limited.{Limited}
 
 -- a number between two limits of one magnitude
 between_abs : (n : ℕ) (z : ℤ) → between (neg_ℤ (pos n)) z (pos n) ≡ true → nat_abs z ≤ n
-between_abs n z e =
-    let both = both_true (le_z (neg_ℤ (pos n)) z) (le_z z (pos n)) e in
-    (abs-≤ n z).1 ((le_z_true (neg_ℤ (pos n)) z).0 both.0, (le_z_true z (pos n)).0 both.1)
+between_abs n z e = grind (arith, ints)
 
 -- int streams are among the first 64
 abbrev pub Few : Types → Type 0

@@ -7,19 +7,17 @@ use mathlib.Core.Bool.{Bool, true, false, ◌&&◌}
 use Prim.Native.Nat.{ℕ}
 use lib.Dec.{eqb}
 use lib.IntN.{ℤ, pos}
-use lib.Signed.{le_z}
 use borrow.Author.Tests.{eqb-true}
-use Rattle.integers.proofs.Order.{≤ℤ-of-≡, ≤ℤ-antisym, le_z_true}
+use native.Mathlib.Omega.{arith}
+use Rattle.std.proofs.lemmas.Int.{ints}
 use Rattle.answers.proofs.Tests.{both_true}
 use Rattle.constraints.specs.Linear.{Form, Bounded, coefficient, same_z, agree_at, same_content}
 
 pub same_means : (a b : ℤ) → same_z a b ≡ true → a ≡ b
-same_means a b e =
-    let both = both_true (le_z a b) (le_z b a) e in
-    ≤ℤ-antisym a b ((le_z_true a b).0 both.0) ((le_z_true b a).0 both.1)
+same_means a b e = grind (arith, ints)
 
 pub same_test : (a b : ℤ) → a ≡ b → same_z a b ≡ true
-same_test a b e = rw ((le_z_true a b).1 (≤ℤ-of-≡ a b e)) ((le_z_true b a).1 (≤ℤ-of-≡ b a (sym e)))
+same_test a b e = grind (arith, ints)
 
 module _ (f g : Form) where
   -- at each variable they agree, or the list has none of it

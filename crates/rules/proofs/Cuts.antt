@@ -12,6 +12,8 @@ use borrow.Author.Tests.{leb-true, le-leb, eqb-true, eqb-false, ne_eqb, eq-eqb, 
 use lib.Dec.{leb, eqb}
 use lib.IntN.{ℤ, pos, neg_ℤ, ◌+ℤ◌, ◌-ℤ◌, ◌*ℤ◌}
 use lib.Signed.{le_z, lt_z, ◌≤ℤ◌, ◌<ℤ◌}
+use Rattle.std.proofs.Math.Bool.{and_assoc}
+use Rattle.std.proofs.lemmas.Int.{ints}
 use Rattle.integers.proofs.Diff.{zify, by_diff2}
 use Rattle.integers.proofs.Order.{le_z_true, lt_z_true}
 use Rattle.answers.specs.Checks.{every}
@@ -33,7 +35,7 @@ use Rattle.rules.proofs.Floors.{floor_test}
 
 -- to a coefficient
 cancels : (r : ℕ) (a c : ℤ) → (pos r *ℤ (neg_ℤ (pos 1) *ℤ c) +ℤ a ≡ pos 0) ↔ (a ≡ pos r *ℤ c)
-cancels r = by_diff2 _ (λ p q s t. simp zify (omega arith))
+cancels r a c = grind (arith, ints)
 
 zero_test : (r : ℕ) (a c : ℤ) → same_z (pos r *ℤ (neg_ℤ (pos 1) *ℤ c) +ℤ a) (pos 0) ≡ same_z a (pos r *ℤ c)
 zero_test r a c =
@@ -171,10 +173,6 @@ module _ (constraints : ℕ → Constraint) where
 
 -- ---- the law
 
-and_assoc : (a b c : Bool) → (a && (b && c)) ≡ (a && b && c)
-and_assoc true b c = refl
-and_assoc false b c = refl
-
 -- the multiplier on the last literal leaves the count as it is
 pub same_count : (line : Line) → listed_in (as_arithmetic line) ≡ listed_in line
 unfolding listed_in
@@ -195,7 +193,7 @@ module _ (constraints : ℕ → Constraint) (line : Line) where
         zeros_test constraints line facts,
         rounded_test constraints line facts,
       )
-      (sym (and_assoc (multiple_ok constraints line) _ is_low))
+      (and_assoc (multiple_ok constraints line) _ is_low)
 
   -- a cut is kind 4 with the multiplier r on the last literal, and r times the bound at most B
   pub cut_law : cut_ok constraints line ≡ (is_cut line && (arithmetic_ok constraints (as_arithmetic line) && is_low))

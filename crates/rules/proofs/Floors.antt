@@ -7,6 +7,7 @@ use native.Mathlib.Nat.{div-add-mod, mod-lt, lt_of_mul-lt-mul_left}
 use native.Mathlib.Omega.{arith}
 use lib.IntN.{ℤ, pos, negsuc, ◌+ℤ◌, ◌*ℤ◌}
 use lib.Signed.{le_z, lt_z, ◌≤ℤ◌, ◌<ℤ◌}
+use Rattle.std.proofs.lemmas.Int.{ints}
 use Rattle.integers.proofs.Diff.{zify, by_diff3}
 use Rattle.integers.proofs.Order.{≤ℤ-antisym, le_z_true, lt_z_true}
 use Rattle.answers.proofs.Tests.{both_true, same_test}
@@ -19,10 +20,10 @@ abbrev pub IsFloor : (r : ℕ) → (f b : ℤ) → Type 0
 IsFloor r f b = ((pos r *ℤ f) ≤ℤ b) × (b <ℤ (pos r *ℤ f +ℤ pos r))
 
 above : (r q b : ℕ) → r * q ≤ b → b < r * q + r → IsFloor r (pos q) (pos b)
-above r q b = simp zify (omega arith)
+above r q b h k = grind (arith, ints)
 
 below : (r q b : ℕ) → r * q ≤ b → b < r * q + r → IsFloor r (negsuc q) (negsuc b)
-below r q b = simp zify (omega arith)
+below r q b h k = grind (arith, ints)
 
 pub floor_is : (r : ℕ) → 1 ≤ r → (b : ℤ) → IsFloor r (floor_over b r) b
 floor_is r some (pos b) = above r (b / r) b (omega (arith, div-add-mod b r)) (omega (arith, div-add-mod b r, mod-lt b some))

@@ -1,9 +1,9 @@
 -- A literal that matches a clause's literal is true where that is: bools by their atom, constraints by their content, which is the
 -- clause's times a whole number of at least 1.
 -- Assumes nothing.
-use mathlib.Core.Path.{◌≡◌, refl, sym, ◌∙◌}
+use mathlib.Core.Path.{◌≡◌, sym, ◌∙◌, ap, fun_ext}
 use mathlib.Core.Bool.{true, false}
-use Prim.Native.Nat.{ℕ, zero, suc, ◌/◌, ◌%◌, ◌<◌}
+use Prim.Native.Nat.{ℕ, ◌/◌, ◌%◌, ◌<◌}
 use native.Mathlib.Omega.{arith}
 use borrow.Author.Tests.{eq-eqb, ne_eqb, lt-leb, not-true}
 use lib.IntN.{ℤ, pos}
@@ -24,14 +24,10 @@ use Rattle.rules.proofs.ClausesNamed.{LiteralBelow}
 
 -- ---- the same content, the same truth
 
-dot_same : (a b : ℕ → ℤ) → ((x : ℕ) → a x ≡ b x) → (n : ℕ) (w : ℕ → ℤ) → dot a n w ≡ dot b n w
-dot_same a b same zero w = refl
-dot_same a b same (suc n) w = rw (same n, dot_same a b same n w)
-
 -- forms with the same coefficients have the same value
 pub total_same : (n : ℕ) (w : ℕ → ℤ) (f g : Form) → Below n f → Below n g → ((x : ℕ) → coefficient f x ≡ coefficient g x) → total f w ≡ total g w
 total_same n w f g l m same =
-    total_dot n w f l ∙ dot_same (coefficient f) (coefficient g) same n w ∙ sym (total_dot n w g m)
+    total_dot n w f l ∙ ap (λ (a : ℕ → ℤ). dot a n w) (fun_ext same) ∙ sym (total_dot n w g m)
 
 pub same_bounded : (n : ℕ) (w : Valuation) (c d : Bounded) → Below n c.form → Below n d.form → same_content c d ≡ true → is_bounded w c ≡ is_bounded w d
 same_bounded n w c d l m e =

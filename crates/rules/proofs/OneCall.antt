@@ -9,18 +9,20 @@ use borrow.Author.Tests.{ltb-true, ltb-false}
 use lib.Dec.{ltb}
 use Rattle.answers.specs.declared.Place.{Place}
 use Rattle.answers.specs.declared.Place.TheVariants.{Line as AtLine}
-use Rattle.answers.specs.Answer.{Answer, accepted, refused, CertificateValues, TurnAnswer, final, unfinished}
+use Rattle.answers.specs.Answer.{Answer, accepted, refused, TurnAnswer, final, unfinished}
+use Rattle.answers.specs.declared.CertificateValues.{CertificateValues}
 use Rattle.answers.specs.Checks.{Lowest}
 use Rattle.answers.proofs.Lowest.{none, found}
 use Rattle.rules.specs.Turns.{due_of, moved, turn_of}
 use Rattle.rules.specs.Verdict.{lines_of, line_fault, line_passes, parts_verdict, lines_verdict, before_lines, verdict_of}
 use Rattle.rules.specs.Versions.{Version}
 use Rattle.rules.proofs.Turns.{moved_answer, due_left, Pass, next, by_turn}
+use Rattle.std.specs.Prelude.{Err, Ok}
 
 -- a final answer's turn moves on or stays
 moved_line : (P : ℕ → Type 0) (a : Answer CertificateValues) (line n : ℕ) → P line → P (line + n) → P (moved (final a) line n).line
-moved_line P (accepted v) line n stays moves = moves
-moved_line P (refused number place) line n stays moves = stays
+moved_line P (Ok v) line n stays moves = moves
+moved_line P (Err r) line n stays moves = stays
 
 module _ (version : Version) (node cert : List ℕ) where
   -- what is known of a record that turns on these files have left, where no check before lines fails
@@ -32,9 +34,9 @@ module _ (version : Version) (node cert : List ℕ) where
   one_call = verdict_of version node cert
 
   -- a final answer is the one call's
-  abbrev pub AsOneCall : (Unfinished : Type 0) → TurnAnswer → Type 0
-  AsOneCall Unfinished (final a) = a ≡ one_call
-  AsOneCall Unfinished unfinished = Unfinished
+  abbrev pub AsOneCall : (Else : Type 0) → TurnAnswer → Type 0
+  AsOneCall Else (final a) = a ≡ one_call
+  AsOneCall Else unfinished = Else
 
   -- what the one call answers, by what is known of the lines
   if_refused : (number : ℕ) (place : Place) → before_lines version node cert ≡ refused number place → one_call ≡ refused number place

@@ -6,11 +6,11 @@ use mathlib.Core.Logic.{◌↔◌}
 use mathlib.Core.Bool.{true, false≢true}
 use mathlib.Core.List.{List}
 use Prim.Native.Nat.{ℕ, ◌<◌}
-use Rattle.answers.specs.declared.Found.{Found}
-use Rattle.answers.specs.declared.Found.TheVariants.{At, Nothing}
 use Rattle.answers.specs.declared.Place.{Place}
 use Rattle.answers.specs.declared.Place.TheVariants.{File, Constraint as AtConstraint, Line as AtLine, Base, Step}
-use Rattle.answers.specs.Answer.{Answer, accepted, refused, NodeValues, CertificateValues}
+use Rattle.answers.specs.Answer.{Answer, accepted, refused}
+use Rattle.answers.specs.declared.NodeValues.{NodeValues}
+use Rattle.answers.specs.declared.CertificateValues.{CertificateValues}
 use Rattle.answers.specs.Checks.{and_then}
 use Rattle.answers.proofs.Checks.{by_check, by_check_all}
 use Rattle.answers.proofs.Lowest.{none, all, first}
@@ -22,11 +22,12 @@ use Rattle.rules.specs.Verdict.{lines_of, values_of, shape_passes, line_fault, l
 use Rattle.rules.specs.Versions.{Version}
 use Rattle.rules.proofs.LineFaults.{KindRules, line_kept, line_passes_is, line_broken}
 use Rattle.rules.proofs.Matches.{equation_means, equation_test}
+use Rattle.std.specs.Prelude.{Err, None, Ok, Option, Some}
 
 -- the lowest line at fault, or the rest
-by_lines : (P : Answer CertificateValues → Type 0) (found : Found) (number : ℕ → ℕ) (rest : Answer CertificateValues) → ((i : ℕ) → found ≡ At i → P (refused (number i) (AtLine i))) → (found ≡ Nothing → P rest) → P (check_lines found number rest)
-by_lines P (At i) number rest f g = f i refl
-by_lines P Nothing number rest f g = g refl
+by_lines : (P : Answer CertificateValues → Type 0) (found : Option ℕ) (number : ℕ → ℕ) (rest : Answer CertificateValues) → ((i : ℕ) → found ≡ Some i → P (refused (number i) (AtLine i))) → (found ≡ None → P rest) → P (check_lines found number rest)
+by_lines P (Some i) number rest f g = f i refl
+by_lines P None number rest f g = g refl
 
 module _ (version : Version) (node cert : List ℕ) where
   kept : LinesKeep cert (line_passes version node cert) → (i : ℕ) → i < lines_of cert → (shape_passes node cert i ≡ true) × KindRules version node cert i
@@ -64,8 +65,8 @@ module _ (version : Version) (node cert : List ℕ) where
 
   -- what the answer of the checks before lines says
   abbrev Opens : Answer (Unit {0}) → Type 0
-  Opens (accepted v) = BeforeLines version node cert
-  Opens (refused number place) = FirstFailure version node cert number place
+  Opens (Ok v) = BeforeLines version node cert
+  Opens (Err r) = FirstFailure version node cert r.number r.place
 
   of_file : NodeRules node → Opens (file_verdict version node cert)
   unfolding file_verdict constraints_verdict
@@ -83,16 +84,16 @@ module _ (version : Version) (node cert : List ℕ) where
   file_opens n e = subst Opens e (of_file n)
 
   after_node : (a : Answer NodeValues) → node_verdict node ≡ a → Opens (and_then a (file_verdict version node cert))
-  after_node (accepted v) e = of_file (node_keeps node e)
-  after_node (refused number place) e = in_node (node_first node e)
+  after_node (Ok v) e = of_file (node_keeps node e)
+  after_node (Err r) e = in_node (node_first node e)
 
   pub opens : {v : Unit {0}} → before_lines version node cert ≡ accepted v → BeforeLines version node cert
   unfolding before_lines
   opens e = subst Opens e (after_node (node_verdict node) refl)
 
   after_opening : (a : Answer (Unit {0})) → Opens a → Says version node cert (and_then a (lines_verdict version node cert))
-  after_opening (accepted v) b = of_lines b
-  after_opening (refused number place) f = f
+  after_opening (Ok v) b = of_lines b
+  after_opening (Err r) f = f
 
   pub says : Says version node cert (verdict_of version node cert)
   unfolding verdict_of before_lines

@@ -9,6 +9,7 @@ use native.Mathlib.Omega.{arith}
 use borrow.Author.Tests.{leb-true, ltb-true, eqb-true, eqb-false, ne_eqb, not-true}
 use lib.Dec.{leb, ltb, eqb}
 use Rattle.answers.specs.Checks.{every}
+use Rattle.answers.proofs.Every.{every_of}
 use Rattle.answers.proofs.Tests.{both_true}
 use Rattle.constraints.specs.Layout.{Constraint, Line}
 use Rattle.constraints.proofs.Blocks.{listed_within}
@@ -16,10 +17,6 @@ use Rattle.rules.specs.Joins.{is_lower, joins, join_ok}
 use Rattle.rules.specs.Lines.{Window, has_literals, has_empty}
 use Rattle.rules.specs.Satisfaction.{Valuation, Satisfies}
 use Rattle.rules.proofs.Joins.{joined}
-
--- past a number that it is not
-past : (n kind : ℕ) → n ≤ kind → eqb kind n ≡ false → suc n ≤ kind
-past n kind least e = let other = eqb-false kind n e in omega (arith, other)
 
 -- a line's five kinds
 by_kind : {A : Type 0} (kind : ℕ) → 1 ≤ kind → kind ≤ 5
@@ -32,13 +29,7 @@ by_kind {A} kind least most one two three four five = go (eqb kind 1) (eqb kind 
     go false false true d e f g h = three (eqb-true kind 3 g)
     go false false false true e f g h = four (eqb-true kind 4 h)
     go false false false false e f g h =
-        five (omega (arith, past 4 kind (past 3 kind (past 2 kind (past 1 kind least e) f) g) h))
-
--- a test that holds of each of the first n
-each_every : (ok : ℕ → Bool) (n : ℕ) → ((k : ℕ) → k < n → ok k ≡ true) → every ok n ≡ true
-unfolding every
-each_every ok zero h = refl
-each_every ok (suc n) h = rw (each_every ok n (λ k l. h k (omega arith)), h n (le_refl (suc n)))
+        five (omega (arith, eqb-false kind 1 e, eqb-false kind 2 f, eqb-false kind 3 g, eqb-false kind 4 h))
 
 -- what line i's rule 19 says: its two lines are lower ones of the part, and join to it
 pub record JoinFacts (lines : ℕ → Line) (from i : ℕ) : Type 0 where
@@ -105,7 +96,7 @@ module _ (constraints : ℕ → Constraint) (lines : ℕ → Line) (part : Windo
 
     all_have_literals : every (has_literals lines part.from) (part.until - part.from) ≡ true
     all_have_literals =
-        each_every (has_literals lines part.from) (part.until - part.from)
+        every_of (has_literals lines part.from) (part.until - part.from)
         (λ k l.
         let i = part.from + k in
         some_literal (lines i) (satisfied_to (suc i) i (le_refl (suc i)) (omega arith) (omega arith)))

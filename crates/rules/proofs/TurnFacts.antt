@@ -8,7 +8,8 @@ use native.Mathlib.Nat.{add-zero}
 use native.Mathlib.Omega.{arith}
 use Rattle.answers.specs.declared.Place.{Place}
 use Rattle.answers.specs.declared.Place.TheVariants.{Base, Step}
-use Rattle.answers.specs.Answer.{Answer, accepted, refused, CertificateValues, final, unfinished}
+use Rattle.answers.specs.Answer.{Answer, accepted, refused, final, unfinished}
+use Rattle.answers.specs.declared.CertificateValues.{CertificateValues}
 use Rattle.answers.proofs.Checks.{by_check}
 use Rattle.constraints.specs.Layout.{line_of}
 use Rattle.rules.specs.Lines.{has_empty}

@@ -8,24 +8,24 @@ use native.Mathlib.Nat.{min-le_left, min-le_right, min-eq_left, min-eq_right}
 use native.Mathlib.Omega.{arith}
 use borrow.Author.Tests.{leb-true, leb-false, ltb-true, ltb-false, lt-ltb, le-ltb, lt-leb, le-leb}
 use lib.Dec.{leb, ltb}
-use Rattle.answers.specs.declared.Found.{Found}
-use Rattle.answers.specs.declared.Found.TheVariants.{At, Nothing}
 use Rattle.answers.specs.declared.Place.{Place}
 use Rattle.answers.specs.declared.Place.TheVariants.{File, Line as AtLine}
-use Rattle.answers.specs.Answer.{Answer, accepted, refused, CertificateValues, TurnAnswer, final, unfinished}
+use Rattle.answers.specs.Answer.{Answer, accepted, refused, TurnAnswer, final, unfinished}
+use Rattle.answers.specs.declared.CertificateValues.{CertificateValues}
 use Rattle.answers.specs.Checks.{lowest, Lowest, check}
 use Rattle.answers.proofs.Lowest.{none, found, all, first}
 use Rattle.rules.specs.Turns.{Turn, due_of, counted_from, next_lines, after_lines, then_turn, lines_turn, turn_answer_of, moved, turn_of}
 use Rattle.rules.specs.Verdict.{lines_of, line_fault, line_passes, check_lines, parts_verdict, before_lines}
 use Rattle.rules.specs.Versions.{Version}
+use Rattle.std.specs.Prelude.{Err, None, Ok, Option, Some}
 
 -- what a refused turn gives
 abbrev pub refused_at : (line number : ℕ) → Place → Turn
 refused_at line number place = record { answer = final (refused number place); line = line; checked = 0 }
 
 pub moved_answer : (a : Answer CertificateValues) (line n : ℕ) → (moved (final a) line n).answer ≡ final a
-moved_answer (accepted v) line n = refl
-moved_answer (refused number place) line n = refl
+moved_answer (Ok v) line n = refl
+moved_answer (Err r) line n = refl
 
 -- no more are due than are asked for, nor than are left
 pub due_asked : (cert : List ℕ) (line quota : ℕ) → due_of cert line quota ≤ quota
@@ -81,7 +81,7 @@ module _ (version : Version) (node cert : List ℕ) where
   unfolding lines_turn
   turn_within line quota l = rw (le-leb line (lines_of cert) l)
 
-  all_pass : (line n : ℕ) → lowest (next line) n ≡ Nothing → Pass line n
+  all_pass : (line n : ℕ) → lowest (next line) n ≡ None → Pass line n
   all_pass line n e i l m =
       let here : line + (i - line) ≡ i = omega arith in
       subst (λ (k : ℕ). line_passes version node cert k ≡ true) here (all (next line) n e (i - line) (omega arith))
@@ -115,9 +115,9 @@ module _ (version : Version) (node cert : List ℕ) where
       unfolding next_lines
       of_lines o l = go (lowest (next line) n) refl
         where
-          go : (f : Found) → lowest (next line) n ≡ f → Q (then_turn (check_lines (counted_from line f) (line_fault version node cert) (accepted tt)) (after_lines version node cert (line + n)))
-          go (At j) e = fault o l j (first (next line) n j e)
-          go Nothing e = after o l (all_pass line n e)
+          go : (f : Option ℕ) → lowest (next line) n ≡ f → Q (then_turn (check_lines (counted_from line f) (line_fault version node cert) (accepted tt)) (after_lines version node cert (line + n)))
+          go (Some j) e = fault o l j (first (next line) n j e)
+          go None e = after o l (all_pass line n e)
 
       of_turn : Opened → Q (lines_turn version node cert line quota)
       unfolding lines_turn
@@ -132,5 +132,5 @@ module _ (version : Version) (node cert : List ℕ) where
       by_turn = go (before_lines version node cert) refl
         where
           go : (a : Answer (Unit {0})) → before_lines version node cert ≡ a → Q (then_turn a (lines_turn version node cert line quota))
-          go (accepted v) e = of_turn e
-          go (refused number place) e = before number place e
+          go (Ok v) e = of_turn e
+          go (Err r) e = before r.number r.place e

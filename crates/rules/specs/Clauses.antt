@@ -1,5 +1,5 @@
 -- "Clauses, in order": what each operator's equation says of a window, one list of clauses an operator.
-use Rattle.std.specs.Prelude.{ℕ, zero, suc, List, [], ◌∷◌, ◌++◌, map, Bool, false, cond, ℤ, pos, neg_ℤ}
+use Rattle.std.specs.Prelude.{ℕ, suc, List, [], ◌∷◌, ◌++◌, map, Bool, false, cond, ℤ, pos, neg_ℤ, Option, slice_get}
 use Rattle.std.specs.Int.Signed.{le_z}
 use Rattle.node.specs.declared.equation.StreamType.{StreamType}
 use Rattle.node.specs.declared.equation.StreamType.TheVariants.{Bool as BoolType, Int as IntType}
@@ -11,8 +11,6 @@ use Rattle.rules.specs.declared.pattern.Linear.{Linear}
 use Rattle.rules.specs.declared.pattern.Pattern.{Pattern}
 use Rattle.rules.specs.declared.pattern.Pattern.TheVariants.{Yes, No, Most}
 use Rattle.rules.specs.declared.pattern.Clause.{Clause}
-use Rattle.rules.specs.declared.pattern.Named.{Named}
-use Rattle.rules.specs.declared.pattern.Named.TheVariants.{Is, Missing}
 use Rattle.rules.specs.declared.pattern.Position.{Position}
 use Rattle.rules.specs.declared.pattern.Position.TheVariants.{Opening, Entry, Inner}
 
@@ -104,7 +102,5 @@ clauses version ty (Greater a b) at now back s =
     clause1 (most (now a) s) ∷ clause1 (most (now b) s) ∷ clause2 (most s (now a)) (most s (now b)) ∷ []
 
 -- "clause r, counted from 0"
-abbrev pub numbered : List Clause → ℕ → Named
-numbered [] r = Missing
-numbered (c ∷ cs) zero = Is c
-numbered (c ∷ cs) (suc r) = numbered cs r
+abbrev pub numbered : List Clause → ℕ → Option Clause
+numbered clauses r = slice_get clauses r

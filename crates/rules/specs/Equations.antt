@@ -1,14 +1,12 @@
 -- Rule 17, "kind 1 not as above", in its words: "Equation: clause r, counted from 0, of stream p at offset q (base: below k; step: up
 -- to k). Literals equal the list below in its order". In version 2 "the base covers instants 0 to k". Lines.antt has the test.
-use Rattle.std.specs.Prelude.{ℕ, ◌-◌, ◌<◌, ◌≡◌}
+use Rattle.std.specs.Prelude.{ℕ, ◌-◌, ◌<◌, ◌≡◌, None, Option, Some}
 use Rattle.node.specs.declared.equation.StreamType.{StreamType}
 use Rattle.node.specs.declared.equation.Equation.{Equation}
 use Rattle.constraints.specs.Layout.{Constraint, Line}
 use Rattle.constraints.specs.Linear.{variable}
 use Rattle.rules.specs.Versions.{Version}
 use Rattle.rules.specs.declared.pattern.Clause.{Clause}
-use Rattle.rules.specs.declared.pattern.Named.{Named}
-use Rattle.rules.specs.declared.pattern.Named.TheVariants.{Is, Missing}
 use Rattle.rules.specs.declared.pattern.Position.{Position}
 use Rattle.rules.specs.Clauses.{clauses, numbered}
 use Rattle.rules.specs.Lines.{position_of}
@@ -22,9 +20,9 @@ pub record LiteralsEqual (constraints : ℕ → Constraint) (m : ℕ) (line : Li
   pub third : 2 < c.count → Matches constraints m c.third (line.literal 2)
 
 -- those of a number's clause, where there is one
-abbrev pub EqualNamed : (ℕ → Constraint) → (m : ℕ) → Line → Named → Type 0
-EqualNamed constraints m line Missing = ⊥
-EqualNamed constraints m line (Is c) = LiteralsEqual constraints m line c
+abbrev pub EqualNamed : (ℕ → Constraint) → (m : ℕ) → Line → Option Clause → Type 0
+EqualNamed constraints m line None = ⊥
+EqualNamed constraints m line (Some c) = LiteralsEqual constraints m line c
 
 pub record EquationLine (version : Version) (n : ℕ) (types : ℕ → StreamType) (equations : ℕ → Equation) (constraints : ℕ → Constraint) (m offsets : ℕ) (opening : Position) (line : Line) : Type 0 where
   pub stream : line.head.p < n

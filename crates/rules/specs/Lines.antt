@@ -1,5 +1,5 @@
 -- The conditions 16 to 18 and 21 of "Where each refusal is met", and which of 17 to 20 and 22 a line of a kind breaks.
-use Rattle.std.specs.Prelude.{ℕ, ◌+◌, ◌-◌, Bool, false, cond, not, ◌&&◌, ◌||◌, leb, ltb, eqb}
+use Rattle.std.specs.Prelude.{ℕ, ◌+◌, ◌-◌, Bool, false, cond, not, ◌&&◌, ◌||◌, leb, ltb, eqb, None, Option, Some}
 use Rattle.answers.specs.Checks.{every}
 use Rattle.node.specs.declared.equation.StreamType.{StreamType}
 use Rattle.node.specs.declared.equation.Equation.{Equation}
@@ -9,8 +9,6 @@ use Rattle.constraints.specs.Linear.{variable}
 use Rattle.constraints.specs.Rules.{Types}
 use Rattle.rules.specs.Versions.{Version}
 use Rattle.rules.specs.declared.pattern.Clause.{Clause}
-use Rattle.rules.specs.declared.pattern.Named.{Named}
-use Rattle.rules.specs.declared.pattern.Named.TheVariants.{Is, Missing}
 use Rattle.rules.specs.declared.pattern.Position.{Position}
 use Rattle.rules.specs.declared.pattern.Position.TheVariants.{Opening, Entry, Inner}
 use Rattle.rules.specs.Arithmetic.{is_multiplier}
@@ -105,9 +103,9 @@ clause_is constraints m line c =
     && (leb c.count 1 || matches_of constraints m c.second (line.literal 1))
     && (leb c.count 2 || matches_of constraints m c.third (line.literal 2))
 
-abbrev pub literals_are : (ℕ → Constraint) → (m : ℕ) → Line → Named → Bool
-literals_are constraints m line Missing = false
-literals_are constraints m line (Is c) = clause_is constraints m line c
+abbrev pub literals_are : (ℕ → Constraint) → (m : ℕ) → Line → Option Clause → Bool
+literals_are constraints m line None = false
+literals_are constraints m line (Some c) = clause_is constraints m line c
 
 -- a node as lines see it
 pub record Streams : Type 0 where

@@ -1,9 +1,10 @@
 -- The rules of a certificate one by one: what an accepted one keeps, and what a refusal says. Both are proved of every answer
 -- (proofs/Outcomes.antt), so that all published rules hold and no other. The theorem does not look into the verdict.
-use Rattle.std.specs.Prelude.{ℕ, ◌<◌, ◌≡◌, List, Bool, true, false, length}
+use Rattle.std.specs.Prelude.{ℕ, ◌<◌, ◌≡◌, List, Bool, true, false, length, Err, Ok}
 use Rattle.answers.specs.declared.Place.{Place}
 use Rattle.answers.specs.declared.Place.TheVariants.{File, Constraint as AtConstraint, Line as AtLine, Base, Step}
-use Rattle.answers.specs.Answer.{Answer, accepted, refused, CertificateValues}
+use Rattle.answers.specs.Answer.{Answer}
+use Rattle.answers.specs.declared.CertificateValues.{CertificateValues}
 use Rattle.answers.specs.Checks.{Lowest}
 use Rattle.node.specs.Outcome.{NodeRules, FirstFailure as NodeFailure}
 use Rattle.node.specs.Rules.{length_ok}
@@ -82,5 +83,5 @@ pub data FirstFailure (version : Version) (node cert : List ℕ) : (number : ℕ
 
 -- what each answer to a node file and a certificate says
 abbrev pub Says : Version → (node cert : List ℕ) → Answer CertificateValues → Type 0
-Says version node cert (accepted v) = CertificateRules version node cert × (v ≡ values_of cert)
-Says version node cert (refused number place) = FirstFailure version node cert number place
+Says version node cert (Ok v) = CertificateRules version node cert × (v ≡ values_of cert)
+Says version node cert (Err r) = FirstFailure version node cert r.number r.place

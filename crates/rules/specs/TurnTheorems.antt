@@ -1,6 +1,7 @@
 -- What holds of turns, stated without the proofs.
-use Rattle.std.specs.Prelude.{◌≡◌, ℕ, ◌+◌, ◌<◌, ◌≤◌, true, List}
-use Rattle.answers.specs.Answer.{Answer, accepted, refused, CertificateValues, TurnAnswer, final, unfinished}
+use Rattle.std.specs.Prelude.{◌≡◌, ℕ, ◌+◌, ◌<◌, ◌≤◌, true, List, Err, Ok}
+use Rattle.answers.specs.Answer.{Answer, accepted, TurnAnswer, final, unfinished}
+use Rattle.answers.specs.declared.CertificateValues.{CertificateValues}
 use Rattle.constraints.specs.Layout.{line_of}
 use Rattle.rules.specs.Turns.{Turn, begun_line, most_lines, turn_of, line_after, checked_in}
 use Rattle.rules.specs.Verdict.{lines_of, values_of, shape_passes, EquationKept, property_passes, join_passes, arithmetic_passes, cut_passes, verdict_of}
@@ -20,9 +21,9 @@ abbrev pub TurnSays : (cert : List ℕ) → (line quota : ℕ) → Turn → Turn
 -- "While lines are left the answer is "unfinished"": the whole quota was checked
 TurnSays cert line quota t unfinished = (t.checked ≡ quota) × (t.line < lines_of cert)
 -- an accepted turn leaves no line
-TurnSays cert line quota t (final (accepted values)) = (t.line ≡ lines_of cert) × (values ≡ values_of cert)
+TurnSays cert line quota t (final (Ok values)) = (t.line ≡ lines_of cert) × (values ≡ values_of cert)
 -- "a refused turn returns its record unmoved, with 0"
-TurnSays cert line quota t (final (refused number place)) = (t.line ≡ line) × (t.checked ≡ 0)
+TurnSays cert line quota t (final (Err r)) = (t.line ≡ line) × (t.checked ≡ 0)
 
 -- what holds of a turn, whatever its files, its quota and its record, a forged one too
 pub record TurnKeeps (version : Version) (node cert : List ℕ) (line quota : ℕ) (t : Turn) : Type 0 where

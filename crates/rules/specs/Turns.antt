@@ -1,9 +1,7 @@
 -- "A call takes a quota of lines and a progress record": checking in turns. The record is one line number, that of the next line.
-use Rattle.std.specs.Prelude.{ℕ, ◌+◌, ◌-◌, min, List, [], ◌∷◌, Bool, cond, leb, ltb}
-use Rattle.answers.specs.declared.Found.{Found}
-use Rattle.answers.specs.declared.Found.TheVariants.{At, Nothing}
+use Rattle.std.specs.Prelude.{ℕ, ◌+◌, ◌-◌, min, List, [], ◌∷◌, Bool, cond, leb, ltb, Err, None, Ok, Option, Some}
 use Rattle.answers.specs.declared.Place.TheVariants.{File}
-use Rattle.answers.specs.Answer.{Answer, accepted, refused, TurnAnswer, final, unfinished}
+use Rattle.answers.specs.Answer.{Answer, accepted, TurnAnswer, final, unfinished}
 use Rattle.answers.specs.Checks.{check, lowest}
 use Rattle.rules.specs.Verdict.{lines_of, line_fault, line_passes, check_lines, parts_verdict, before_lines}
 use Rattle.rules.specs.Versions.{Version}
@@ -27,11 +25,11 @@ abbrev pub due_of : (cert : List ℕ) → (line quota : ℕ) → ℕ
 due_of cert line quota = min quota (lines_of cert - line)
 
 -- the lowest of n lines from a line on at which a test fails
-abbrev pub counted_from : (line : ℕ) → Found → Found
-counted_from line (At j) = At (line + j)
-counted_from line Nothing = Nothing
+abbrev pub counted_from : (line : ℕ) → Option ℕ → Option ℕ
+counted_from line (Some j) = Some (line + j)
+counted_from line None = None
 
-abbrev pub lowest_from : (ok : ℕ → Bool) → (line n : ℕ) → Found
+abbrev pub lowest_from : (ok : ℕ → Bool) → (line n : ℕ) → Option ℕ
 lowest_from ok line n = counted_from line (lowest (λ j. ok (line + j)) n)
 
 -- "checks the next lines in order .. up to the first refused": n lines from a line on
@@ -45,8 +43,8 @@ after_lines version node cert line = cond (ltb line (lines_of cert)) unfinished 
 
 -- where checks pass, the answer is that of those after
 abbrev pub then_turn : Answer (Unit {0}) → TurnAnswer → TurnAnswer
-then_turn (accepted passed) rest = rest
-then_turn (refused number place) rest = final (refused number place)
+then_turn (Ok passed) rest = rest
+then_turn (Err r) rest = final (Err r)
 
 -- "55, progress past the last line"; then the lines, and what is after them
 unfoldable pub lines_turn : Version → (node cert : List ℕ) → (line quota : ℕ) → TurnAnswer
@@ -61,8 +59,8 @@ turn_answer_of version node cert line quota =
 
 -- the record moves on by the n lines that were checked; "a refused turn returns its record unmoved, with 0"
 abbrev pub moved : TurnAnswer → (line n : ℕ) → Turn
-moved (final (accepted values)) line n = record { answer = final (accepted values); line = line + n; checked = n }
-moved (final (refused number place)) line n = record { answer = final (refused number place); line = line; checked = 0 }
+moved (final (Ok values)) line n = record { answer = final (accepted values); line = line + n; checked = n }
+moved (final (Err r)) line n = record { answer = final (Err r); line = line; checked = 0 }
 moved unfinished line n = record { answer = unfinished; line = line + n; checked = n }
 
 unfoldable pub turn_of : Version → (node cert : List ℕ) → (line quota : ℕ) → Turn

@@ -1,9 +1,8 @@
 -- The answer to a node file and a certificate: the whole table "Where each refusal is met" but for sessions, from the top.
-use Rattle.std.specs.Prelude.{ℕ, ◌+◌, List, Bool, cond, ltb, eqb, length}
-use Rattle.answers.specs.declared.Found.{Found}
-use Rattle.answers.specs.declared.Found.TheVariants.{At, Nothing}
+use Rattle.std.specs.Prelude.{ℕ, ◌+◌, List, Bool, cond, ltb, eqb, length, None, Option, Some}
 use Rattle.answers.specs.declared.Place.TheVariants.{File, Constraint as AtConstraint, Line as AtLine, Base, Step}
-use Rattle.answers.specs.Answer.{Answer, accepted, refused, CertificateValues}
+use Rattle.answers.specs.Answer.{Answer, accepted, refused}
+use Rattle.answers.specs.declared.CertificateValues.{CertificateValues}
 use Rattle.answers.specs.Checks.{check, check_all, lowest, and_then}
 use Rattle.node.specs.Equations.{type_at, equation_at}
 use Rattle.node.specs.Layout.{streams_of, property_of}
@@ -101,9 +100,9 @@ abbrev pub line_passes : Version → (node cert : List ℕ) → (i : ℕ) → Bo
 line_passes version node cert i = eqb (line_fault version node cert i) 0
 
 -- the lowest line at fault, refused with the number of what it breaks
-abbrev pub check_lines : {A : Type 0} → Found → (number : ℕ → ℕ) → Answer A → Answer A
-check_lines (At i) number rest = refused (number i) (AtLine i)
-check_lines Nothing number rest = rest
+abbrev pub check_lines : {A : Type 0} → Option ℕ → (number : ℕ → ℕ) → Answer A → Answer A
+check_lines (Some i) number rest = refused (number i) (AtLine i)
+check_lines None number rest = rest
 
 -- "with its depth and both line counts, as the trailer has them"
 abbrev pub values_of : (cert : List ℕ) → CertificateValues

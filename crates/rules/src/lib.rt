@@ -3,4 +3,4 @@
 
 mod pattern;
 
-pub use pattern::{Clause, Linear, Named, Pattern, Position};
+pub use pattern::{Clause, Linear, Pattern, Position};

@@ -23,20 +23,14 @@ pub enum Pattern {
     Most(Linear),
 }
 
-// A clause of one to three literals; past the count the last one stands again.
+// A clause of one to three literals; past the count the last one stands again. No enum of three variants: `matching::is_clause`
+// answers for every count.
 #[derive(Clone, Copy)]
 pub struct Clause {
     pub count: usize,
     pub first: Pattern,
     pub second: Pattern,
     pub third: Pattern,
-}
-
-// The clause of a number, where an equation has one.
-#[derive(Clone, Copy)]
-pub enum Named {
-    Is(Clause),
-    Missing,
 }
 
 // Where in a window an equation stands: at the base's first offset, which is instant 0, at the step's first offset, or later.

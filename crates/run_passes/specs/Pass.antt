@@ -1,7 +1,7 @@
 -- A pass file, this repository's own format: a list of events, each a u16 kind, a u16 count of inputs, a u16 length of the slice, and the
 -- inputs, signed and of 64 bits; all little-endian. Kind 1 is a trial, 2 a commit and 3 a beginning; every other is the old call. What stands
 -- where a commit's inputs would is passed over; where a beginning's would stands its file, cut off after as many bytes as the slice would be long.
-use Rattle.std.specs.Prelude.{◌≡◌, ℕ, zero, suc, ◌+◌, ◌*◌, Bool, cond, List, [], ◌∷◌, eqb, ltb, ℤ, pos, length, take, drop, replicate}
+use Rattle.std.specs.Prelude.{◌≡◌, ℕ, zero, suc, ◌+◌, ◌*◌, ◌≤◌, Bool, cond, List, [], ◌∷◌, eqb, ltb, ℤ, pos, length, take, drop, replicate}
 use Rattle.fields.specs.Fields.{u16_at}
 use Rattle.numbers.specs.Numbers.{numbers_from}
 use Rattle.report.specs.Call.{call_line}
@@ -9,6 +9,8 @@ use Rattle.report.specs.Line.{overwritten}
 use Rattle.session.specs.declared.Session.{Session}
 use Rattle.session.specs.Events.{Event, beginning, trial, commit, old_call, event_answer, after_event, lent_after}
 use Rattle.session.specs.Lists.{Call}
+use Rattle.run_passes.specs.declared.pass.Kind.{Kind}
+use Rattle.run_passes.specs.declared.pass.Kind.TheVariants.{OldCall, Trial, Commit, Beginning}
 
 -- how many bytes an event has, by its count
 abbrev pub size_of : List ℕ → ℕ
@@ -50,6 +52,20 @@ event_of event =
     cond (eqb (kind_of event) 3) (beginning (file_of event))
     (cond (eqb (kind_of event) 2) commit
     (call_event (eqb (kind_of event) 1) (call_of event)))
+
+-- the event, once its kind is told
+abbrev pub event_by : Kind → List ℕ → Event
+event_by OldCall event = old_call (call_of event)
+event_by Trial event = trial (call_of event)
+event_by Commit event = commit
+event_by Beginning event = beginning (file_of event)
+
+-- a beginning has its counts, with its file after them
+abbrev pub IsLong : Kind → List ℕ → Type 0
+IsLong OldCall event = Unit {0}
+IsLong Trial event = Unit {0}
+IsLong Commit event = Unit {0}
+IsLong Beginning event = 6 ≤ length event
 
 -- what a trial, a commit or an old call gives and shows: the session after it, and the line of its answer and slice in a buffer
 pub record ShownOf (s : Session) (e : Event) (next : Session) (size : ℕ) (old new : List ℕ) : Type 0 where

@@ -1,14 +1,13 @@
-// Events of a pass, made on a session by value, each with its line.
+// Events of a pass, made on a session by value, each with its line. A write that fails is passed over.
 ghost use Rattle.std.specs.Prelude.{◌≤◌, ◌≡◌, cond, length};
-ghost use Rattle.answers.specs.Answer.{instant_answer};
 ghost use Rattle.session.specs.Events.{beginning, commit, after_event};
 ghost use Rattle.session.specs.Instants.{answer_of, slice_of, trial_of, session_of};
 ghost use Rattle.session.specs.Records.{begun_of};
 ghost use Rattle.run_passes.specs.Pass.{call_of, call_event, file_of, event_of, ShownOf};
 ghost use Rattle.report.specs.Line.{Leading};
 
-use crate::{pass, say};
-use answers::NodeVerdict;
+use crate::pass;
+use crate::pass::Kind;
 use report::{MARK, write_call};
 use session::{Session, Stepped, begun, committed, step, tried};
 
@@ -17,13 +16,12 @@ pub fn begun_on(rt: &impl Print, s: Session, file: &[u8]) -> Session
     ensures { result ≡ begun_of file.now s }
 {
     let t = begun(s, file);
-    let answer = t.answer;
-    match answer {
-        NodeVerdict::Accepted {
-            streams,
-            property: _,
-        } => say::begun(rt, streams),
-        NodeVerdict::Refused(number, place) => say::refused(rt, number, place),
+    match t.answer {
+        Ok(node) => {
+            let streams = node.streams;
+            let _ = println!(rt; "begun streams {streams}");
+        }
+        Err(refusal) => report::say_verdict(rt, Err(refusal)),
     }
     t.session
 }
@@ -35,9 +33,9 @@ struct Shown {
     length: usize,
 }
 
-// A trial or the old call.
+// A trial or the old call. A closure in place of the flag would need the flag in each clause, to say what it answers.
 fn made(s: Session, trying: bool, inputs: &[i64], out: &mut [i64]) -> Stepped
-    ensures { (instant_answer result.answer ≡ answer_of s inputs.now (length out.old))
+    ensures { (result.answer ≡ answer_of s inputs.now (length out.old))
         × (result.session ≡ cond trying (trial_of s inputs.now (length out.old)) (session_of s inputs.now (length out.old)))
         × (out.new ≡ slice_of s inputs.now out.old) }
 {
@@ -58,10 +56,11 @@ fn show_call(s: Session, trying: bool, event: &[u8], out: &mut [u8; 1440]) -> Sh
     let mut slice = [MARK; 65];
     let room = pass::slice_length(event);
     let t = made(s, trying, &inputs[..count], &mut slice[..room]);
-    let answer = t.answer;
-    let length = write_call(answer, slice, room, out);
-    let session = t.session;
-    Shown { session, length }
+    let length = write_call(t.answer, slice, room, out);
+    Shown {
+        session: t.session,
+        length,
+    }
 }
 
 // A commit is lent no slice: its line is that of a call on none.
@@ -70,10 +69,11 @@ fn show_commit(s: Session, out: &mut [u8; 1440]) -> Shown
     ensures leading { Leading result.length out.new }
 {
     let t = committed(s);
-    let answer = t.answer;
-    let length = write_call(answer, [MARK; 65], 0, out);
-    let session = t.session;
-    Shown { session, length }
+    let length = write_call(t.answer, [MARK; 65], 0, out);
+    Shown {
+        session: t.session,
+        length,
+    }
 }
 
 // The session after a trial or an old call, whose line is printed.
@@ -81,23 +81,21 @@ fn called(rt: &impl Print, s: Session, trying: bool, event: &[u8]) -> Session
     ensures { result ≡ after_event s (call_event trying (call_of event.now)) }
 {
     if trying {
-        say::text(rt, b"trial: ");
+        let _ = rt.print("trial: ");
     }
     let mut line = [0u8; 1440];
     let t = show_call(s, trying, event, &mut line);
-    let length = t.length;
-    say::text(rt, &line[..length]);
+    let _ = rt.write_all(&line[..t.length]);
     t.session
 }
 
 fn committed_now(rt: &impl Print, s: Session) -> Session
     ensures { result ≡ after_event s commit }
 {
-    say::text(rt, b"commit: ");
+    let _ = rt.print("commit: ");
     let mut line = [0u8; 1440];
     let t = show_commit(s, &mut line);
-    let length = t.length;
-    say::text(rt, &line[..length]);
+    let _ = rt.write_all(&line[..t.length]);
     t.session
 }
 
@@ -105,7 +103,7 @@ fn begun_again(rt: &impl Print, s: Session, event: &[u8]) -> Session
     requires { 6 ≤ length event.now }
     ensures { result ≡ after_event s (beginning (file_of event.now)) }
 {
-    say::text(rt, b"beginning: ");
+    let _ = rt.print("beginning: ");
     begun_on(rt, s, pass::file(event))
 }
 
@@ -113,12 +111,10 @@ fn begun_again(rt: &impl Print, s: Session, event: &[u8]) -> Session
 pub fn after_event(rt: &impl Print, s: Session, event: &[u8]) -> Session
     ensures { result ≡ after_event s (event_of event.now) }
 {
-    let kind = pass::kind(event);
-    if kind == 3 {
-        return begun_again(rt, s, event);
+    match pass::kind_of(event) {
+        Kind::OldCall => called(rt, s, false, event),
+        Kind::Trial => called(rt, s, true, event),
+        Kind::Commit => committed_now(rt, s),
+        Kind::Beginning => begun_again(rt, s, event),
     }
-    if kind == 2 {
-        return committed_now(rt, s);
-    }
-    called(rt, s, kind == 1, event)
 }

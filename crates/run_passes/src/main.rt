@@ -10,14 +10,12 @@ ghost use Rattle.run_passes.specs.Pass.{events_of};
 ghost use Rattle.run_passes.specs.Zeroed.{zeroed as zeroedRecord};
 
 use events::{after_event, begun_on};
-use files::{argument, argument_count, read_file};
+use files::{argument_count, argument_file, say_argument};
 use session::Session;
 use std::rt::{Env, Files};
 
-mod bytes;
 mod events;
 mod pass;
-mod say;
 
 fn zeroed() -> Session
     ensures { result ≡ zeroedRecord }
@@ -39,11 +37,9 @@ fn run(rt: &impl Print, begun: Session, events: &[u8]) -> Session
 {
     let mut s = begun;
     let mut left = events;
-    let mut size = pass::first_size(left);
-    while 0 < size {
-        s = after_event(rt, s, &left[..size]);
-        left = &left[size..];
-        size = pass::first_size(left);
+    while let Some((event, rest)) = pass::first(left) {
+        s = after_event(rt, s, event);
+        left = rest;
     }
     s
 }
@@ -55,23 +51,14 @@ fn run_pass(rt: &impl Print, node: &[u8], events: &[u8]) -> Session
     run(rt, begun_on(rt, zeroed(), node), events)
 }
 
-fn run_files(rt: &(impl Files + Print), node_path: &[u8], pass_path: &[u8]) {
-    let mut node = [0u8; 65536];
-    let mut events = [0u8; 65536];
-    let n = read_file(rt, node_path, &mut node);
-    let m = read_file(rt, pass_path, &mut events);
-    run_pass(rt, &node[..n], &events[..m]);
-}
-
 // The pair that two arguments name.
 fn run_pair(rt: &(impl Env + Files + Print), node_number: usize, pass_number: usize) {
-    let mut node_path = [0u8; 4096];
-    let mut pass_path = [0u8; 4096];
-    let n = argument(rt, node_number, &mut node_path);
-    let m = argument(rt, pass_number, &mut pass_path);
-    say::text(rt, &pass_path[..m]);
-    say::text(rt, b": ");
-    run_files(rt, &node_path[..n], &pass_path[..m]);
+    let mut node = [0u8; 65536];
+    let mut events = [0u8; 65536];
+    say_argument(rt, pass_number);
+    let node = argument_file(rt, node_number, &mut node);
+    let events = argument_file(rt, pass_number, &mut events);
+    run_pass(rt, node, events);
 }
 
 // Argument 0 is the program's own name. A last node file without a pass file's name has a pass without events.

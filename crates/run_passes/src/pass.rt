@@ -1,31 +1,48 @@
 // A pass file is a list of events, each: u16 kind, u16 input count m, u16 slice length r, m signed 64-bit inputs; all little-endian. A
 // cut-off last event is ignored. A count or a length over 65 is made as 65, which is one more than any node has; the inputs past it are
 // skipped. A beginning has its file where the inputs would be, cut off after r bytes.
-ghost use Rattle.std.specs.Prelude.{◌≤◌, ◌≡◌, length};
-ghost use Rattle.run_passes.specs.Pass.{first_size, kind_of, count_at, first_inputs, file_of};
+ghost use Rattle.std.specs.Prelude.{◌<◌, ◌≤◌, ◌≡◌, MatchOption, length};
+ghost use Rattle.std.specs.List.{IsSplitAt};
+ghost use Rattle.run_passes.specs.Pass.{first_size, count_at, first_inputs, file_of, event_by, event_of, IsLong};
 
-use crate::bytes::u16_at;
+use fields::Field;
 use numbers::read_numbers;
 
-// How many bytes the first event of a list has; 0 where no whole event is there.
-pub fn first_size(events: &[u8]) -> usize
-    ensures { result ≡ first_size events.now }
-{
-    if events.len() < 6 {
-        return 0;
-    }
-    let size = 6 + 8 * (u16_at(events, 2) as usize);
-    if events.len() < size { 0 } else { size }
+// What an event is.
+#[derive(Clone, Copy)]
+pub enum Kind {
+    OldCall,
+    Trial,
+    Commit,
+    Beginning,
 }
 
-// What an event is: 1 a trial, 2 a commit, 3 a beginning, any other number the old call.
-pub fn kind(event: &[u8]) -> usize
-    ensures { result ≡ kind_of event.now }
+// The first event of a list and the events after it, where a whole event is there.
+pub fn first(events: &[u8]) -> Option<(&[u8], &[u8])>
+    ensures { MatchOption result
+        (first_size events.now ≡ 0)
+        (λ p. (0 < first_size events.now) × IsSplitAt events.now (first_size events.now) p.0.now p.1.now) }
+{
+    if events.len() < 6 {
+        return None;
+    }
+    events.split_at_checked(6 + 8 * u16::read_at(events, 2) as usize)
+}
+
+// The number of its kind is 1 for a trial, 2 for a commit, 3 for a beginning and any other for the old call.
+pub fn kind_of(event: &[u8]) -> Kind
+    ensures event { event_by result event.now ≡ event_of event.now }
+    ensures long { IsLong result event.now }
 {
     if event.len() < 6 {
-        return 0;
+        return Kind::OldCall;
     }
-    u16_at(event, 0) as usize
+    match u16::read_at(event, 0) {
+        1 => Kind::Trial,
+        2 => Kind::Commit,
+        3 => Kind::Beginning,
+        _ => Kind::OldCall,
+    }
 }
 
 fn count_at(event: &[u8], at: usize) -> usize
@@ -35,8 +52,7 @@ fn count_at(event: &[u8], at: usize) -> usize
     if event.len() < 6 {
         return 0;
     }
-    let n = u16_at(event, at) as usize;
-    if n < 65 { n } else { 65 }
+    (u16::read_at(event, at) as usize).min(65)
 }
 
 pub fn input_count(event: &[u8]) -> usize
@@ -67,11 +83,7 @@ pub fn file(event: &[u8]) -> &[u8]
     requires { 6 ≤ length event.now }
     ensures { result.now ≡ file_of event.now }
 {
-    let room = u16_at(event, 4) as usize;
+    let room = u16::read_at(event, 4) as usize;
     let bytes = &event[6..];
-    if room < bytes.len() {
-        &bytes[..room]
-    } else {
-        bytes
-    }
+    &bytes[..room.min(bytes.len())]
 }

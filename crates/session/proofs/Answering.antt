@@ -9,13 +9,11 @@ use borrow.Author.Tests.{le-leb, leb-true, eqb-true, not-true}
 use lib.Dec.{leb, eqb}
 use lib.IntN.{ℤ, pos}
 use lib.ListN.{length, take}
+use lib.Seq.{length-take-le}
 use Rattle.answers.specs.declared.Place.{Place}
 use Rattle.answers.specs.declared.Place.TheVariants.{File}
-use Rattle.answers.specs.declared.InstantVerdict.{InstantVerdict}
-use Rattle.answers.specs.declared.InstantVerdict.TheVariants.{Refused}
-use Rattle.answers.specs.declared.Found.{Found}
-use Rattle.answers.specs.Answer.{Answer, accepted, refused, instant_answer, is_accepted}
-use Rattle.answers.specs.Checks.{check, lowest}
+use Rattle.answers.specs.Answer.{Answer, accepted, refused, is_accepted}
+use Rattle.answers.specs.Checks.{check}
 use Rattle.answers.proofs.Checks.{by_check}
 use Rattle.answers.proofs.Tests.{both_true}
 use Rattle.node.specs.Inputs.{input_count}
@@ -25,16 +23,17 @@ use Rattle.node.specs.Verdict.{verdict_of}
 use Rattle.node.proofs.FileRules.{Sizes}
 use Rattle.node.proofs.Notes.{accepted_sizes}
 use Rattle.node.proofs.Outcomes.{is_accepted_is}
-use Rattle.streams.specs.Instant.{input_fits, instant_of, value_inside, first_along, filled}
+use Rattle.streams.specs.Instant.{instant_of, filled}
 use Rattle.streams.specs.Nodes.{node_of}
 use Rattle.streams.proofs.Evaluations.{instant_length}
 use Rattle.session.specs.declared.Session.{Session}
-use Rattle.session.specs.declared.holding.HeldNode.{HeldNode}
-use Rattle.session.specs.declared.holding.HeldNode.TheVariants.{Streams, NoNode}
 use Rattle.session.specs.Records.{held_file, unstarted, untried, typed_unless, is_node, holds_node}
-use Rattle.session.specs.Instants.{worked_out, in_order, answer_of, slice_of, with_trial, trial_of, moved_to, moved_on, commit_answer, commit_of, session_of}
-use Rattle.session.specs.Working.{node_held, with_parts}
-use Rattle.session.proofs.Filled.{over, over_whole, start_of_filled}
+use Rattle.session.specs.Instants.{worked_out, answer_of, slice_of, with_trial, trial_of, moved_to, moved_on, commit_answer, commit_of, session_of}
+use Rattle.session.specs.Working.{node_held}
+use Rattle.session.proofs.Filled.{start_of_filled}
+use Rattle.std.specs.Option.{is_some}
+use Rattle.std.specs.Prelude.{Option, Some, None, option_map}
+use Rattle.session.specs.declared.holding.Held.{Held}
 
 -- a refusal is no answer
 pub not_answered : {A : Type 0} {number : ℕ} {place : Place} → ◌≡◌ {A = Answer (Unit {0})} (refused number place) (accepted tt) → A
@@ -43,24 +42,32 @@ not_answered e = let n : ◌≡◌ {A = ℕ} 0 1 = cc in absurd (omega arith)
 -- ---- what the node that was found says of the record
 
 module _ (s : Session) where
-  abbrev node_found : HeldNode
-  node_found = node_held s.file s.length (unstarted s) s.last (untried s) s.trial
-
-  pub holds_none : node_found ≡ NoNode → holds_node s ≡ false
-  unfolding node_held holds_node
+  pub holds_none : node_held s ≡ None → holds_node s ≡ false
+  unfolding node_held
   holds_none = go (holds_node s)
     where
-      go : (b : Bool) → cond b (Streams (streams_of (held_file s))) NoNode ≡ NoNode → b ≡ false
+      go : (b : Bool) → cond b (Some (streams_of (held_file s))) None ≡ None → b ≡ false
       go true e = let n : ◌≡◌ {A = ℕ} 0 1 = cc in absurd (omega arith)
       go false e = refl
 
-  pub holds_one : {n : ℕ} → node_found ≡ Streams n → (holds_node s ≡ true) × (n ≡ streams_of (held_file s))
-  unfolding node_held holds_node
+  pub holds_one : {n : ℕ} → node_held s ≡ Some n → (holds_node s ≡ true) × (n ≡ streams_of (held_file s))
+  unfolding node_held
   holds_one {n} = go (holds_node s)
     where
-      go : (b : Bool) → cond b (Streams (streams_of (held_file s))) NoNode ≡ Streams n → (b ≡ true) × (n ≡ streams_of (held_file s))
+      go : (b : Bool) → cond b (Some (streams_of (held_file s))) None ≡ Some n → (b ≡ true) × (n ≡ streams_of (held_file s))
       go true e = (refl, cc)
       go false e = let n : ◌≡◌ {A = ℕ} 0 1 = cc in absurd (omega arith)
+
+  -- .. and whether one was found
+  pub found_holds : (found : Option Held) → option_map (λ (held : Held). held.streams) found ≡ node_held s → is_some found ≡ holds_node s
+  unfolding node_held
+  found_holds found = go (holds_node s) found
+    where
+      go : (b : Bool) (f : Option Held) → option_map (λ (held : Held). held.streams) f ≡ cond b (Some (streams_of (held_file s))) None → is_some f ≡ b
+      go true (Some held) e = refl
+      go true None e = let n : ◌≡◌ {A = ℕ} 0 1 = cc in absurd (omega arith)
+      go false (Some held) e = let n : ◌≡◌ {A = ℕ} 0 1 = cc in absurd (omega arith)
+      go false None e = refl
 
   module _ (e : holds_node s ≡ true) where
     short_and_node : (leb s.length 1040 ≡ true) × (is_node (held_file s) (unstarted s) s.last (untried s) s.trial ≡ true)
@@ -84,17 +91,7 @@ module _ (s : Session) where
   unfolding holds_node
   holds_by short is_node_is last trial = rw (le-leb s.length 1040 short, is_node_is, last, trial)
 
--- ---- the answer, from what the tests gave
-
 module _ (s : Session) (inputs : List ℤ) (room : ℕ) where
-  pub answer_by : {node count size : Bool} {input value : Found} → holds_node s ≡ node → eqb (length inputs) (input_count (held_file s)) ≡ count → eqb room (streams_of (held_file s)) ≡ size → lowest (input_fits (held_file s) inputs) (streams_of (held_file s)) ≡ input → first_along (order_of (held_file s)) (value_inside (worked_out s inputs)) ≡ value → in_order node count size input value ≡ answer_of s inputs room
-  unfolding answer_of
-  answer_by a b c d e = sym (λ i. in_order (a i) (b i) (c i) (d i) (e i))
-
-  -- the outcome of a refusal: it owes no values
-  pub refusal : {answer : InstantVerdict} {number : ℕ} {place : Place} (values : List ℤ) → answer ≡ Refused number place → refused number place ≡ answer_of s inputs room → (instant_answer answer ≡ answer_of s inputs room) × (instant_answer answer ≡ accepted tt → values ≡ filled 64 (pos 0) (worked_out s inputs))
-  refusal values e f = (ap instant_answer e ∙ f, λ a. not_answered (sym (ap instant_answer e) ∙ a))
-
   -- ---- what an answered call has passed
 
   abbrev Passed : Answer (Unit {0}) → Type 0
@@ -137,24 +134,22 @@ module _ (s : Session) (inputs slice values : List ℤ) where
   unfolding instant_of
   worked_length = instant_length (node_of (held_file s)) (order_of (held_file s)) inputs (unstarted s) s.last
 
-  writes_all : Answered → Has → over slice values (length slice) ≡ worked_out s inputs
+  -- the slice's length is that of the values which are written
+  pub room_is : Answered → length values ≡ 64 → length slice ≡ length (take (length slice) values)
+  room_is e size = sym (length-take-le (length slice) values (omega (arith, size, answered_few s inputs (length slice) e)))
+
+  writes_all : Answered → Has → take (length slice) values ≡ worked_out s inputs
   writes_all e are =
-      over_whole slice values
-      ∙ ap (take (length slice)) are
+      ap (take (length slice)) are
       ∙ start_of_filled 64 (length slice) (pos 0) (worked_out s inputs) (worked_length ∙ sym (answered_room s inputs (length slice) e))
 
-  pub writes : Answered → Has → over slice values (length slice) ≡ slice_of s inputs slice
+  pub writes : Answered → Has → take (length slice) values ≡ slice_of s inputs slice
   unfolding slice_of
   writes e are = rw e (writes_all e are)
 
 pub refused_keeps : (s : Session) (inputs slice : List ℤ) {number : ℕ} {place : Place} → answer_of s inputs (length slice) ≡ refused number place → (trial_of s inputs (length slice) ≡ s) × (session_of s inputs (length slice) ≡ s) × (slice_of s inputs slice ≡ slice)
 unfolding trial_of session_of slice_of
 refused_keeps s inputs slice e = (rw e, rw e, rw e)
-
--- what is said of a record by its parts is said of it
-pub by_parts : (s : Session) (inputs slice : List ℤ) → let p = with_parts s.length s.last s.trial s.file s.started s.held in (answer_of p inputs (length slice) ≡ answer_of s inputs (length slice)) × (slice_of p inputs slice ≡ slice_of s inputs slice)
-unfolding answer_of slice_of holds_node
-by_parts s inputs slice = (refl, refl)
 
 -- ---- a commit's answer, from what the tests gave
 

@@ -7,7 +7,8 @@ use native.Mathlib.Omega.{arith}
 use lib.IntN.{pos}
 use lib.ListN.{length, drop, replicate}
 use Rattle.answers.specs.declared.Place.{Place}
-use Rattle.answers.specs.Answer.{accepted, refused, NodeValues}
+use Rattle.answers.specs.Answer.{accepted, refused}
+use Rattle.answers.specs.declared.NodeValues.{NodeValues}
 use Rattle.node.specs.Layout.{size_of}
 use Rattle.node.specs.Verdict.{verdict_of}
 use Rattle.node.proofs.Notes.{accepted_sizes, note_is, rest_size}

@@ -11,10 +11,9 @@ use lib.Dec.{eqb}
 use lib.IntN.{ℤ}
 use lib.ListN.{length, get_or}
 use Rattle.integers.specs.Range.{inside}
-use Rattle.answers.specs.declared.Found.{Found}
-use Rattle.answers.specs.declared.Found.TheVariants.{At, Nothing}
 use Rattle.answers.specs.declared.Place.TheVariants.{File, Record as AtRecord}
-use Rattle.answers.specs.Answer.{Answer, accepted, NodeValues}
+use Rattle.answers.specs.Answer.{Answer, accepted}
+use Rattle.answers.specs.declared.NodeValues.{NodeValues}
 use Rattle.answers.specs.Checks.{lowest}
 use Rattle.answers.proofs.Checks.{by_check, by_check_all}
 use Rattle.answers.proofs.Lowest.{none, all, lowest_same}
@@ -41,13 +40,14 @@ use Rattle.session.specs.Theorems.{Judged, input_typed, answer_given}
 use Rattle.session.proofs.Answering.{not_answered, held_accepted, answered_holds}
 use Rattle.session.proofs.Nodes.{input_fits_same}
 use Rattle.session.proofs.Standing.{Standing, held_node, worked_out_is}
+use Rattle.std.specs.Prelude.{None, Option, Some}
 
 -- 34 is met where 31 and 33 pass
-same_order : (count size : Bool) (input value other : Found) → (count ≡ true → input ≡ Nothing → value ≡ other) → in_order true count size input value ≡ in_order true count size input other
+same_order : (count size : Bool) (input value other : Option ℕ) → (count ≡ true → input ≡ None → value ≡ other) → in_order true count size input value ≡ in_order true count size input other
 same_order false size input value other h = refl
 same_order true false input value other h = refl
-same_order true true (At i) value other h = refl
-same_order true true Nothing value other h = ap (in_order true true true Nothing) (h refl refl)
+same_order true true (Some i) value other h = refl
+same_order true true None value other h = ap (in_order true true true None) (h refl refl)
 
 -- tests that agree on all streams have the same first failure along the order
 first_same : (file : List ℕ) {node : NodeValues} → verdict_of file ≡ accepted node → (f g : ℕ → Bool) → ((i : ℕ) → i < streams_of file → f i ≡ g i) → first_along (order_of file) f ≡ first_along (order_of file) g
@@ -62,7 +62,7 @@ module _ (file : List ℕ) (inputs : List ℤ) (is : TypedInstant (node_of file)
   pub typed_count : eqb (length inputs) (input_count file) ≡ true
   typed_count = eq-eqb _ _ is.count
 
-  pub typed_inputs : lowest (input_typed file inputs) (streams_of file) ≡ Nothing
+  pub typed_inputs : lowest (input_typed file inputs) (streams_of file) ≡ None
   typed_inputs = none (input_typed file inputs) (streams_of file) (λ i l. go i l (is_input file i) refl)
     where
       go : (i : ℕ) → i < streams_of file → (b : Bool) → is_input file i ≡ b → (not b || fits_test (type_at file i) (given (node_of file) inputs i)) ≡ true
@@ -71,7 +71,7 @@ module _ (file : List ℕ) (inputs : List ℤ) (is : TypedInstant (node_of file)
 
 module _ (file : List ℕ) {node : NodeValues} (e : verdict_of file ≡ accepted node) (c : Call) where
   -- .. and inputs that pass them are typed
-  pub typed : eqb (length c.inputs) (input_count file) ≡ true → lowest (input_typed file c.inputs) (streams_of file) ≡ Nothing → TypedInstant (node_of file) c.inputs
+  pub typed : eqb (length c.inputs) (input_count file) ≡ true → lowest (input_typed file c.inputs) (streams_of file) ≡ None → TypedInstant (node_of file) c.inputs
   typed count input =
       record {
         count = eqb-true _ _ count;
@@ -109,9 +109,9 @@ module _ (file : List ℕ) {node : NodeValues} (e : verdict_of file ≡ accepted
       subst (λ (k : ℕ). inside (values k) ≡ true) (ordered.at_place_is i l)
       (all (λ k. inside (values (get_or (order_of file) k 0))) (length (order_of file)) (no_place _ value) (place_in (order_of file) i) (omega (arith, ordered.size, ordered.has i l)))
     where
-      no_place : (f : Found) → at_place (order_of file) f ≡ Nothing → f ≡ Nothing
-      no_place (At k) z = absurd (let w : ◌≡◌ {A = ℕ} 0 1 = cc in omega arith)
-      no_place Nothing z = refl
+      no_place : (f : Option ℕ) → at_place (order_of file) f ≡ None → f ≡ None
+      no_place (Some k) z = absurd (let w : ◌≡◌ {A = ℕ} 0 1 = cc in omega arith)
+      no_place None z = refl
 
   module _ (done : List Answered) (s : Session) (stands : Standing file done s) where
     -- the answer is the one for the values worked out

@@ -7,7 +7,8 @@ use Prim.Native.Nat.{ℕ, ◌≤◌}
 use native.Mathlib.Omega.{arith}
 use lib.ListN.{length}
 use lib.Seq.{take-append_seam}
-use Rattle.answers.specs.Answer.{accepted, NodeValues}
+use Rattle.answers.specs.Answer.{accepted}
+use Rattle.answers.specs.declared.NodeValues.{NodeValues}
 use Rattle.node.specs.Layout.{streams_of}
 use Rattle.node.specs.Note.{without_note}
 use Rattle.node.specs.Verdict.{verdict_of}

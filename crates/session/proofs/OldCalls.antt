@@ -5,7 +5,7 @@ use mathlib.Core.Path.{◌≡◌, refl, sym, ◌∙◌, ap, subst}
 use mathlib.Core.List.{List, [], ◌∷◌, ◌++◌, map, append-nil, append_assoc}
 use Prim.Native.Nat.{ℕ}
 use lib.ListN.{length}
-use Rattle.answers.specs.Answer.{Answer, accepted, refused, if_accepted}
+use Rattle.answers.specs.Answer.{Answer, accepted, if_accepted}
 use Rattle.node.specs.Reads.{All}
 use Rattle.session.specs.declared.Session.{Session}
 use Rattle.session.specs.Events.{Event, old_call, Run, begun_run, trying, committing, run_after, after_events, last_run, runs}
@@ -16,6 +16,7 @@ use Rattle.session.specs.Theorems.{Shows, Exact, RunShows, CallsExact, OneCall, 
 use Rattle.session.proofs.Answering.{answered_holds, commit_by}
 use Rattle.session.proofs.Sessions.{sessions_exact}
 use Rattle.session.proofs.TypedRecords.{trial_holds}
+use Rattle.std.specs.Prelude.{Err, Ok}
 
 -- ---- lists of the old call
 
@@ -32,15 +33,15 @@ done_more : (s : Session) (r : Run) (c : Call) → (run_after s r (old_call c)).
 done_more s r c = go (answer_to s c)
   where
     go : (a : Answer (Unit {0})) → (if_accepted a (committing (trying r (told s c))) r).done ≡ r.done ++ if_accepted a (told s c ∷ []) []
-    go (accepted a) = refl
-    go (refused number place) = sym (append-nil r.done)
+    go (Ok a) = refl
+    go (Err refusal) = sym (append-nil r.done)
 
 node_same : (s : Session) (r : Run) (c : Call) → (run_after s r (old_call c)).node ≡ r.node
 node_same s r c = go (answer_to s c)
   where
     go : (a : Answer (Unit {0})) → (if_accepted a (committing (trying r (told s c))) r).node ≡ r.node
-    go (accepted a) = refl
-    go (refused number place) = refl
+    go (Ok a) = refl
+    go (Err r) = refl
 
 pub calls_done : (calls : List Call) (s : Session) (r : Run) → (last_run s r (old_calls calls)).done ≡ r.done ++ answered s calls
 unfolding last_run answered
@@ -101,8 +102,8 @@ module _ (c : Call) where
     by_trial P kept moved = go (answer_to s d) refl
       where
         go : (a : Answer (Unit {0})) → answer_to s d ≡ a → P (if_accepted a (tried s d.inputs) s)
-        go (accepted a) e = moved e
-        go (refused number place) e = kept
+        go (Ok a) e = moved e
+        go (Err r) e = kept
 
     module _ (e : answer_to s d ≡ accepted tt) where
       tried_answer : answer_to (tried s d.inputs) c ≡ answer_to s c

@@ -5,7 +5,8 @@ use mathlib.Core.List.{List, [], ◌∷◌}
 use Prim.Native.Nat.{ℕ}
 use Rattle.answers.specs.declared.Place.{Place}
 use Rattle.answers.specs.declared.Place.TheVariants.{File}
-use Rattle.answers.specs.Answer.{Answer, accepted, refused, NodeValues, if_accepted}
+use Rattle.answers.specs.Answer.{Answer, accepted, refused, if_accepted}
+use Rattle.answers.specs.declared.NodeValues.{NodeValues}
 use Rattle.answers.specs.Checks.{check}
 use Rattle.node.specs.Reads.{All}
 use Rattle.node.specs.Verdict.{verdict_of}
@@ -22,6 +23,7 @@ use Rattle.session.proofs.JustBegun.{begun_is, begun_runs}
 use Rattle.session.proofs.Judging.{solved_on}
 use Rattle.session.proofs.Standing.{Standing, TrialStands, RunStands}
 use Rattle.session.proofs.Steps.{event_runs}
+use Rattle.std.specs.Prelude.{Err, Ok}
 
 -- where a session stands, every call is exact
 pub standing_exact : (file : List ℕ) {node : NodeValues} → verdict_of file ≡ accepted node → (done : List Answered) (s : Session) → Standing file done s → (c : Call) → Exact file s done c
@@ -38,8 +40,8 @@ unfolding begun_of
 begun_keeps file s number place = go (verdict_of file)
   where
     go : (a : Answer NodeValues) → begun_answer a ≡ refused number place → if_accepted a (begun file) s ≡ s
-    go (accepted node) e = not_answered (sym e)
-    go (refused n p) e = refl
+    go (Ok node) e = not_answered (sym e)
+    go (Err r) e = refl
 
 event_keeps : (s : Session) (e : Event) (number : ℕ) (place : Place) → event_answer s e ≡ refused number place → (after_event s e ≡ s) × (lent_after s e ≡ lent_to e)
 event_keeps s (beginning file) number place e = (begun_keeps file s number place e, refl)
@@ -70,8 +72,8 @@ module _ (r : Run) (s : Session) (run : RunStands r s) where
   ended_shows (beginning file) = go (verdict_of file)
     where
       go : (a : Answer NodeValues) → All RunShows (if_accepted a (r ∷ []) [])
-      go (accepted node) = (run_shows, tt)
-      go (refused number place) = tt
+      go (Ok node) = (run_shows, tt)
+      go (Err r) = tt
   ended_shows (trial c) = tt
   ended_shows commit = tt
   ended_shows (old_call c) = tt

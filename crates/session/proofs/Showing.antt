@@ -10,7 +10,8 @@ use native.Mathlib.Omega.{arith}
 use lib.ListN.{length, length-append, get_or-append}
 use lib.Seq.{get_or-append_seam}
 use Rattle.integers.specs.Range.{inside}
-use Rattle.answers.specs.Answer.{accepted, NodeValues}
+use Rattle.answers.specs.Answer.{accepted}
+use Rattle.answers.specs.declared.NodeValues.{NodeValues}
 use Rattle.node.specs.Layout.{streams_of}
 use Rattle.node.specs.Verdict.{verdict_of}
 use Rattle.streams.specs.Nodes.{node_of}

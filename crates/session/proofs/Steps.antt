@@ -10,7 +10,8 @@ use native.Mathlib.Omega.{arith}
 use lib.IntN.{ℤ, pos}
 use lib.ListN.{length, get_or-append}
 use Rattle.integers.specs.Range.{inside}
-use Rattle.answers.specs.Answer.{Answer, accepted, refused, NodeValues, if_accepted}
+use Rattle.answers.specs.Answer.{Answer, accepted, if_accepted}
+use Rattle.answers.specs.declared.NodeValues.{NodeValues}
 use Rattle.node.specs.Layout.{streams_of}
 use Rattle.node.specs.Verdict.{verdict_of}
 use Rattle.node.proofs.Needs.{all_append}
@@ -31,6 +32,7 @@ use Rattle.session.proofs.JustBegun.{begun_runs}
 use Rattle.session.proofs.Showing.{more_length, call_own, starts_before, shows_more}
 use Rattle.session.proofs.Standing.{Standing, HoldsTrial, TrialStands, RunStands, worked_out_length, worked_out_is}
 use Rattle.session.proofs.TypedRecords.{trial_holds, commit_holds}
+use Rattle.std.specs.Prelude.{Err, Ok}
 
 module _ (file : List ℕ) {node : NodeValues} (e : verdict_of file ≡ accepted node) (done : List Answered) (s : Session) (stands : Standing file done s) where
   -- ---- an answered trial
@@ -128,20 +130,20 @@ module _ (r : Run) (s : Session) (run : RunStands r s) where
   event_runs (beginning file) = go (verdict_of file) refl
     where
       go : (a : Answer NodeValues) → verdict_of file ≡ a → RunStands (if_accepted a (begun_run file) r) (if_accepted a (begun file) s)
-      go (accepted node) e = begun_runs file e
-      go (refused number place) e = run
+      go (Ok node) e = begun_runs file e
+      go (Err r) e = run
   event_runs (trial c) = go (answer_to s c) refl
     where
       go : (a : Answer (Unit {0})) → answer_to s c ≡ a → RunStands (if_accepted a (trying r (told s c)) r) (if_accepted a (tried s c.inputs) s)
-      go (accepted a) e = trial_runs r s run c e
-      go (refused number place) e = run
+      go (Ok a) e = trial_runs r s run c e
+      go (Err r) e = run
   event_runs commit = go (commit_answer s) refl
     where
       go : (a : Answer (Unit {0})) → commit_answer s ≡ a → RunStands (if_accepted a (committing r) r) (if_accepted a (moved_on s) s)
-      go (accepted a) e = commit_runs r s run (commit_held s e)
-      go (refused number place) e = run
+      go (Ok a) e = commit_runs r s run (commit_held s e)
+      go (Err r) e = run
   event_runs (old_call c) = go (answer_to s c) refl
     where
       go : (a : Answer (Unit {0})) → answer_to s c ≡ a → RunStands (if_accepted a (committing (trying r (told s c))) r) (if_accepted a (moved_on (tried s c.inputs)) s)
-      go (accepted a) e = commit_runs (trying r (told s c)) (tried s c.inputs) (trial_runs r s run c e) refl
-      go (refused number place) e = run
+      go (Ok a) e = commit_runs (trying r (told s c)) (tried s c.inputs) (trial_runs r s run c e) refl
+      go (Err r) e = run

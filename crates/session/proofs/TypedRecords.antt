@@ -9,7 +9,8 @@ use native.Mathlib.Nat.{lt-suc_self}
 use native.Mathlib.Omega.{arith}
 use lib.IntN.{ℤ, pos}
 use lib.ListN.{length, get_or-append}
-use Rattle.answers.specs.Answer.{accepted, NodeValues}
+use Rattle.answers.specs.Answer.{accepted}
+use Rattle.answers.specs.declared.NodeValues.{NodeValues}
 use Rattle.answers.specs.Checks.{every}
 use Rattle.answers.proofs.Every.{every_all, every_of}
 use Rattle.node.specs.Equations.{type_at}

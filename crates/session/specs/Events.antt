@@ -1,6 +1,7 @@
 -- Lists of all calls on a session: "Demand 3's lists then hold trials and commits as well, refused ones too", and here beginnings.
-use Rattle.std.specs.Prelude.{ℕ, List, [], ◌∷◌, ◌++◌, ℤ, length}
-use Rattle.answers.specs.Answer.{Answer, accepted, refused, NodeValues, if_accepted}
+use Rattle.std.specs.Prelude.{ℕ, List, [], ◌∷◌, ◌++◌, ℤ, length, Err, Ok}
+use Rattle.answers.specs.Answer.{Answer, accepted, if_accepted}
+use Rattle.answers.specs.declared.NodeValues.{NodeValues}
 use Rattle.node.specs.Verdict.{verdict_of}
 use Rattle.session.specs.declared.Session.{Session}
 use Rattle.session.specs.Instants.{trial_of, commit_answer, commit_of}
@@ -16,8 +17,8 @@ pub data Event : Type 0 where
 
 -- a beginning's answer without the values that it carries
 abbrev pub begun_answer : Answer NodeValues → Answer (Unit {0})
-begun_answer (accepted v) = accepted tt
-begun_answer (refused number place) = refused number place
+begun_answer (Ok v) = accepted tt
+begun_answer (Err r) = Err r
 
 abbrev pub event_answer : Session → Event → Answer (Unit {0})
 event_answer s (beginning file) = begun_answer (verdict_of file)

@@ -1,7 +1,6 @@
 -- The outcomes of a trial, of a commit and of the old call, which "means a trial and its commit": answer, record and slice. "Every
 -- refusal leaves session and slices as before the call."
-use Rattle.std.specs.Prelude.{ℕ, List, Bool, not, eqb, ℤ, pos, length, replicate}
-use Rattle.answers.specs.declared.Found.{Found}
+use Rattle.std.specs.Prelude.{ℕ, List, Bool, not, eqb, ℤ, pos, length, replicate, Option}
 use Rattle.answers.specs.declared.Place.TheVariants.{File, Record as AtRecord}
 use Rattle.answers.specs.Answer.{Answer, accepted, if_accepted}
 use Rattle.answers.specs.Checks.{check, check_all, lowest}
@@ -17,7 +16,7 @@ abbrev pub worked_out : Session → (inputs : List ℤ) → List ℤ
 worked_out s inputs = instant_of (held_file s) inputs (unstarted s) s.last
 
 -- 30 to 34 in order, from what each test gives
-abbrev pub in_order : (node count size : Bool) → (input value : Found) → Answer (Unit {0})
+abbrev pub in_order : (node count size : Bool) → (input value : Option ℕ) → Answer (Unit {0})
 in_order node count size input value =
     check node 30 File
     (check count 31 File

@@ -1,40 +1,30 @@
 // A commit, by value.
 ghost use Rattle.std.specs.Prelude.{◌≡◌};
-ghost use Rattle.answers.specs.Answer.{instant_answer};
 ghost use Rattle.session.specs.Instants.{commit_answer, commit_of};
 
-use crate::holding::{HeldNode, node_held};
+use crate::holding::node_held;
 use crate::making::Stepped;
 use crate::records::moved_to;
 use crate::{Session, refusals};
-use answers::{InstantVerdict, Place};
+use answers::{InstantVerdict, Place, check};
 
-// A refusal leaves the record.
-fn kept(s: Session, number: usize) -> Stepped
-    ensures { (result.answer ≡ InstantVerdict.Refused number Place.File) × (result.session ≡ s) }
+// 30 and then 35. A commit works nothing out, so that 31 to 34 are never its answer.
+fn commit_answer(s: &Session) -> InstantVerdict
+    ensures { result ≡ commit_answer s.now }
 {
-    Stepped {
-        answer: InstantVerdict::Refused(number, Place::File),
-        session: s,
-    }
+    check(node_held(s).is_some(), refusals::NO_NODE, Place::File)?;
+    check(s.held != 0, refusals::NO_TRIAL, Place::File)
 }
 
-// A commit: 30 and then 35. It works nothing out, so that 31 to 34 are never its answer.
+// A commit: a refusal leaves the record.
 pub fn committed(s: Session) -> Stepped
-    ensures { (instant_answer result.answer ≡ commit_answer s) × (result.session ≡ commit_of s) }
+    ensures { (result.answer ≡ commit_answer s) × (result.session ≡ commit_of s) }
 {
-    let free = s.held == 0;
-    let held = node_held(&s.file, s.length, s.started == 0, &s.last, free, &s.trial);
-    let found = held.node;
-    let HeldNode::Streams(_) = found else {
-        return kept(s, refusals::NO_NODE);
-    };
-    if free {
-        return kept(s, refusals::NO_TRIAL);
-    }
+    let answer = commit_answer(&s);
     let trial = s.trial;
-    Stepped {
-        answer: InstantVerdict::Answered,
-        session: moved_to(s, trial),
-    }
+    let session = match answer {
+        Ok(()) => moved_to(s, trial),
+        Err(_) => s,
+    };
+    Stepped { answer, session }
 }

@@ -1,6 +1,5 @@
 // The published calls: the caller lends the record.
 ghost use Rattle.std.specs.Prelude.{◌≡◌, length};
-ghost use Rattle.answers.specs.Answer.{node_answer, instant_answer};
 ghost use Rattle.node.specs.Verdict.{verdict_of};
 ghost use Rattle.session.specs.Instants.{answer_of, slice_of, trial_of, commit_answer, commit_of, session_of};
 ghost use Rattle.session.specs.Records.{begun_of};
@@ -13,7 +12,7 @@ use answers::{InstantVerdict, NodeVerdict};
 
 // A beginning: the record is set to an accepted file's node, before instant 0; a refusal leaves it.
 pub fn begin(s: &mut Session, file: &[u8]) -> NodeVerdict
-    ensures { (node_answer result ≡ verdict_of file.now) × (s.new ≡ begun_of file.now s.old) }
+    ensures { (result ≡ verdict_of file.now) × (s.new ≡ begun_of file.now s.old) }
 {
     let t = begun(*s, file);
     *s = t.session;
@@ -22,7 +21,7 @@ pub fn begin(s: &mut Session, file: &[u8]) -> NodeVerdict
 
 // A trial: an answered one is kept in the record, which stays at its instant, and fills the slice; a refusal leaves both.
 pub fn trial(s: &mut Session, inputs: &[i64], values: &mut [i64]) -> InstantVerdict
-    ensures { (instant_answer result ≡ answer_of s.old inputs.now (length values.old))
+    ensures { (result ≡ answer_of s.old inputs.now (length values.old))
         × (s.new ≡ trial_of s.old inputs.now (length values.old))
         × (values.new ≡ slice_of s.old inputs.now values.old) }
 {
@@ -33,7 +32,7 @@ pub fn trial(s: &mut Session, inputs: &[i64], values: &mut [i64]) -> InstantVerd
 
 // A commit: an answered one moves the record on to its trial; a refusal leaves it.
 pub fn commit(s: &mut Session) -> InstantVerdict
-    ensures { (instant_answer result ≡ commit_answer s.old) × (s.new ≡ commit_of s.old) }
+    ensures { (result ≡ commit_answer s.old) × (s.new ≡ commit_of s.old) }
 {
     let t = committed(*s);
     *s = t.session;
@@ -42,7 +41,7 @@ pub fn commit(s: &mut Session) -> InstantVerdict
 
 // An instant's call, a trial and its commit: an answered one moves the record on and fills the slice; a refusal leaves both.
 pub fn instant(s: &mut Session, inputs: &[i64], values: &mut [i64]) -> InstantVerdict
-    ensures { (instant_answer result ≡ answer_of s.old inputs.now (length values.old))
+    ensures { (result ≡ answer_of s.old inputs.now (length values.old))
         × (s.new ≡ session_of s.old inputs.now (length values.old))
         × (values.new ≡ slice_of s.old inputs.now values.old) }
 {

@@ -8,16 +8,11 @@ use crate::Session;
 pub fn with_trial(s: Session, values: [i64; 64]) -> Session
     ensures { result ≡ with_trial s values }
 {
-    let last = s.last;
-    let file = s.file;
     Session {
-        length: s.length,
-        last,
         trial: values,
-        file,
-        started: s.started,
         held: 1,
         spare: [0u8; 6],
+        ..s
     }
 }
 
@@ -25,14 +20,12 @@ pub fn with_trial(s: Session, values: [i64; 64]) -> Session
 pub fn moved_to(s: Session, values: [i64; 64]) -> Session
     ensures { result ≡ moved_to s values }
 {
-    let file = s.file;
     Session {
-        length: s.length,
         last: values,
         trial: [0i64; 64],
-        file,
         started: 1,
         held: 0,
         spare: [0u8; 6],
+        ..s
     }
 }

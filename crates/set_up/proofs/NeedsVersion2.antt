@@ -9,7 +9,7 @@ use native.Mathlib.Omega.{arith}
 use lib.Dec.{ltb}
 use lib.IntN.{pos}
 use Rattle.fields.specs.Fields.{twos_complement}
-use Rattle.answers.specs.Answer.{CertificateValues}
+use Rattle.answers.specs.declared.CertificateValues.{CertificateValues}
 use Rattle.answers.specs.Checks.{every}
 use Rattle.answers.proofs.Tests.{both_true}
 use Rattle.answers.proofs.Every.{every_all}

@@ -1,7 +1,8 @@
 -- A node that needs version 2 (examples/set-up): at depth 1 version 2 accepts a certificate, and version 1's rules accept none. And why the
 -- base of version 2 covers instant k too: without it a false property would be accepted (examples/forged-set-up).
 use Rattle.std.specs.Prelude.{ℕ, suc, ◌+◌, ◌*◌, ◌≡◌, List, [], ◌∷◌, ◌++◌, map, true, pos, neg_ℤ, length, replicate}
-use Rattle.answers.specs.Answer.{accepted, CertificateValues}
+use Rattle.answers.specs.Answer.{accepted}
+use Rattle.answers.specs.declared.CertificateValues.{CertificateValues}
 use Rattle.node.specs.Written.{node_file}
 use Rattle.literals.specs.Literals.{negative}
 use Rattle.rules.specs.Theorems.{PropertyHolds}

@@ -8,7 +8,8 @@ use lib.ListN.{replicate, length-replicate}
 use Rattle.integers.specs.Range.{inside}
 use Rattle.fields.specs.Fields.{twos_complement}
 use Rattle.answers.specs.declared.Place.TheVariants.{File, Record as AtRecord, Line as AtLine, Base}
-use Rattle.answers.specs.Answer.{Answer, accepted, refused, NodeValues, if_accepted}
+use Rattle.answers.specs.Answer.{Answer, accepted, refused, if_accepted}
+use Rattle.answers.specs.declared.NodeValues.{NodeValues}
 use Rattle.answers.specs.Checks.{lowest, every}
 use Rattle.node.specs.Equations.{type_among, decoded}
 use Rattle.node.specs.Inputs.{inputs_below}

@@ -1,6 +1,7 @@
 -- Demand 3, whole: what an accepted certificate gives of its node, of a beginning on it, and of every list of events after that.
 use Rattle.std.specs.Prelude.{ℕ, ◌<◌, ◌≡◌, List, pos, length}
-use Rattle.answers.specs.Answer.{accepted, CertificateValues, final}
+use Rattle.answers.specs.Answer.{accepted, final}
+use Rattle.answers.specs.declared.CertificateValues.{CertificateValues}
 use Rattle.node.specs.Layout.{streams_of, property_of}
 use Rattle.node.specs.Reads.{All}
 use Rattle.node.specs.Verdict.{verdict_of as node_verdict}

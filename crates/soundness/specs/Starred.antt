@@ -3,7 +3,9 @@
 use Rattle.std.specs.Prelude.{◌≡◌, ℕ, zero, suc, ◌+◌, ◌-◌, ◌*◌, ◌<◌, List, [], ◌∷◌, ◌++◌, ℤ, pos, neg_ℤ, length, replicate}
 use Rattle.answers.specs.declared.Place.{Place}
 use Rattle.answers.specs.declared.Place.TheVariants.{File, Record as AtRecord, Line as AtLine, Base}
-use Rattle.answers.specs.Answer.{Answer, accepted, refused, NodeValues, CertificateValues}
+use Rattle.answers.specs.Answer.{Answer, accepted, refused}
+use Rattle.answers.specs.declared.NodeValues.{NodeValues}
+use Rattle.answers.specs.declared.CertificateValues.{CertificateValues}
 use Rattle.node.specs.Layout.{streams_of}
 use Rattle.node.specs.Reads.{All}
 use Rattle.node.specs.Verdict.{verdict_of as node_verdict}

@@ -1,6 +1,7 @@
 -- What an accepted certificate proves, stated without the proofs.
 use Rattle.std.specs.Prelude.{◌≡◌, ℕ, List}
-use Rattle.answers.specs.Answer.{accepted, CertificateValues}
+use Rattle.answers.specs.Answer.{accepted}
+use Rattle.answers.specs.declared.CertificateValues.{CertificateValues}
 use Rattle.rules.specs.Theorems.{PropertyHolds}
 use Rattle.rules.specs.Verdict.{verdict_of}
 use Rattle.rules.specs.Versions.{Version, version2}

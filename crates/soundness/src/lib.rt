@@ -7,15 +7,10 @@ ghost use Rattle.rules.specs.Verdict.{verdict_of};
 ghost use Rattle.rules.specs.Theorems.{PropertyHolds};
 ghost use Rattle.rules.specs.Versions.{version2};
 
-use answers::CertificateVerdict;
-
 // Whether the certificate proves the node's property; where it does, the second promise says what that means.
 pub fn is_proved(node: &[u8], cert: &[u8]) -> bool
     ensures verdict { result ≡ is_accepted (verdict_of version2 node.now cert.now) }
     ensures property { result ≡ true → PropertyHolds node.now }
 {
-    match certificate::verdict(node, cert) {
-        CertificateVerdict::Accepted { depth, base, step } => true,
-        CertificateVerdict::Refused(number, place) => false,
-    }
+    certificate::verdict(node, cert).is_ok()
 }

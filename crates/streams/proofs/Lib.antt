@@ -8,6 +8,7 @@ pub mod Orders
 pub mod Reading
 pub mod Renaming
 pub mod Results
+pub mod Turns
 pub mod Typed
 pub mod Types
 pub mod WorkingOut

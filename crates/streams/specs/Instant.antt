@@ -1,10 +1,6 @@
 -- One instant of a file's node: its inputs against their types, and its values, worked out in an array of 64.
-use Rattle.std.specs.Prelude.{◌≡◌, ℕ, ◌-◌, ◌<◌, List, ◌++◌, Bool, true, false, not, ◌||◌, ℤ, pos, length, get_or, replicate}
-use Rattle.answers.specs.declared.Found.{Found}
-use Rattle.answers.specs.declared.Found.TheVariants.{At, Nothing}
+use Rattle.std.specs.Prelude.{◌≡◌, ℕ, ◌-◌, ◌<◌, List, ◌++◌, Bool, not, ◌||◌, ℤ, length, get_or, replicate, None, Option, Some}
 use Rattle.answers.specs.Checks.{lowest}
-use Rattle.integers.specs.declared.Checked.{Checked}
-use Rattle.integers.specs.declared.Checked.TheVariants.{Value, Outside}
 use Rattle.integers.specs.Range.{inside}
 use Rattle.node.specs.Equations.{type_at}
 use Rattle.node.specs.Inputs.{is_input}
@@ -27,15 +23,15 @@ abbrev pub value_inside : (values : List ℤ) → (i : ℕ) → Bool
 value_inside values i = inside (values_in values i)
 
 -- "34 names the first stream in the worked-out order": of the first k of an order, the first that fails a test
-abbrev pub at_place : (order : List ℕ) → Found → Found
-at_place order (At k) = At (get_or order k 0)
-at_place order Nothing = Nothing
+abbrev pub at_place : (order : List ℕ) → Option ℕ → Option ℕ
+at_place order (Some k) = Some (get_or order k 0)
+at_place order None = None
 
-unfoldable pub first_of : (order : List ℕ) → (ok : ℕ → Bool) → (k : ℕ) → Found
+unfoldable pub first_of : (order : List ℕ) → (ok : ℕ → Bool) → (k : ℕ) → Option ℕ
 first_of order ok k = at_place order (lowest (λ j. ok (get_or order j 0)) k)
 
 -- .. and of all of it
-abbrev pub first_along : (order : List ℕ) → (ok : ℕ → Bool) → Found
+abbrev pub first_along : (order : List ℕ) → (ok : ℕ → Bool) → Option ℕ
 first_along order ok = first_of order ok (length order)
 
 -- the input of each of the first k streams, one after another
@@ -45,12 +41,3 @@ HoldInputs file inputs k spread = (i : ℕ) → i < k → values_in spread i ≡
 -- a list with as many of z after it as fill n places
 abbrev pub filled : {A : Type 0} → (n : ℕ) → (z : A) → List A → List A
 filled n z l = l ++ replicate (n - length l) z
-
--- a checked value is there; what the array takes of it, 0 where it is not
-abbrev pub is_value : Checked → Bool
-is_value (Value v) = true
-is_value Outside = false
-
-abbrev pub number_in : Checked → ℤ
-number_in (Value v) = v
-number_in Outside = pos 0

@@ -8,7 +8,6 @@ ghost use Rattle.streams.specs.Instant.{input_fits};
 ghost use Rattle.streams.specs.Typing.{fits_test};
 
 use crate::operands::number_at;
-use answers::Found;
 use node::{StreamType, is_input_among, records_of, type_among, with_record};
 
 // x fits the type: of a bool it is 0 or 1.
@@ -30,18 +29,16 @@ fn input_fits(file: &[u8], n: usize, inputs: &[i64], i: usize, j: usize) -> bool
 }
 
 // The lowest record whose input does not fit its type. The inputs below it are counted along the way.
-pub fn first_bad(file: &[u8], inputs: &[i64]) -> Found
+pub fn first_bad(file: &[u8], inputs: &[i64]) -> Option<usize>
     ensures { result ≡ lowest (input_fits file.now inputs.now) (records_of file.now) }
 {
     let n = records_of(file);
     let mut j = 0;
-    let mut i = 0;
-    while i < n {
+    for i in 0..n {
         if !input_fits(file, n, inputs, i, j) {
-            return Found::At(i);
+            return Some(i);
         }
         j = with_record(file, n, i, j);
-        i += 1;
     }
-    Found::Nothing
+    None
 }

@@ -7,14 +7,14 @@ ghost use Rattle.streams.specs.Values.{equals, truth, values_in};
 pub fn number_at(numbers: &[i64], i: usize) -> i64
     ensures { result ≡ values_in numbers.now i }
 {
-    if i < numbers.len() { numbers[i] } else { 0 }
+    numbers.get(i).copied().unwrap_or(0)
 }
 
 // The value of stream s; past the end, 0.
 pub fn entry(values: &[i64], s: u16) -> i64
     ensures { result ≡ values_in values.now s }
 {
-    number_at(values, s as usize)
+    number_at(values, usize::from(s))
 }
 
 // Whether a is at most b.
@@ -28,13 +28,12 @@ pub fn is_at_most(values: &[i64], a: u16, b: u16) -> bool
 pub fn is_equal(values: &[i64], a: u16, b: u16) -> bool
     ensures { result ≡ equals (values_in values.now a) (values_in values.now b) }
 {
-    is_at_most(values, a, b) & is_at_most(values, b, a)
+    entry(values, a) == entry(values, b)
 }
 
 // Whether s is true.
 pub fn is_true(values: &[i64], s: u16) -> bool
     ensures { result ≡ truth (values_in values.now s) }
 {
-    let x = entry(values, s);
-    (x <= 1) & (1 <= x)
+    entry(values, s) == 1
 }

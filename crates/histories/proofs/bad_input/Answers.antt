@@ -1,8 +1,8 @@
 -- `histories::bad_input` meets its contract: instant by instant, up to the first with a bad input.
-use mathlib.Core.Path.{◌≡◌, refl, sym, ◌∙◌, subst}
+use mathlib.Core.Path.{refl, sym, ◌∙◌, subst}
 use native.Mathlib.Omega.{arith}
-use Prim.Native.Nat.{ℕ, suc, ◌+◌}
-use borrow.Author.Rules.{rules}
+use Prim.Native.Nat.{ℕ}
+use native.Mathlib.Numerals.{add-one}
 use Rattle.node.specs.Layout.{records_of}
 use Rattle.node.proofs.Notes.{accepted_sizes}
 use Rattle.node.proofs.Outcomes.{is_accepted_is}
@@ -21,7 +21,7 @@ bools_of-bools-requires c =
 
 pub loop-t-init : goal.loop-t-init
 unfolding bad_input
-loop-t-init c = (search rules, refl)
+loop-t-init c = refl
 
 pub bad_at-requires : goal.bad_at-requires
 bad_at-requires c =
@@ -35,17 +35,8 @@ bad_at-requires c =
       subst (λ (k : ℕ). MarksBools file k c.bools_of-bools.result) c.requires.1 c.bools_of-bools.ensures,
     )
 
-pub returns-in-At : goal.returns-in-At
-returns-in-At c = sym (found_stays _ _ _ _ _ c.loop-t-test.true (found _ _ _ _ c.loop-t.invariant.1 (sym c.bad_at.ensures ∙ c.in-At.is)))
+pub returns-in-Some : goal.returns-in-Some
+returns-in-Some c = sym (found_stays _ _ _ _ _ c.loop-t-test.true (found _ _ _ _ c.loop-t.invariant (sym c.bad_at.ensures ∙ c.in-Some.is)))
 
 pub loop-t-preserved : goal.loop-t-preserved
-loop-t-preserved c =
-    let more = none_more _ _ _ c.loop-t.invariant.1 (sym c.bad_at.ensures ∙ c.in-Nothing.is) in
-    let next : suc c.loop-t.t ≡ c.loop-t.t + 1 = omega arith in
-    (search rules, rw next at more)
-
-pub returns : goal.returns
-returns c =
-    let inv = c.loop-t.invariant in
-    let t : c.loop-t.t ≡ c.args.count = omega (arith, inv.0, c.loop-t-test.false) in
-    sym (rw t at inv.1)
+loop-t-preserved c = rw add-one (none_more _ _ _ c.loop-t.invariant (sym c.bad_at.ensures ∙ c.in_default.is))

@@ -5,7 +5,7 @@ use Rattle.numbers.proofs.unsigned_at.Goals as goal
 
 pub returns-then-i-bytes : goal.returns-then-i-bytes
 unfolding unsigned_at
-returns-then-i-bytes c = rw (lt-ltb _ _ c.if-i-bytes.true) c.u64_at.ensures
+returns-then-i-bytes c = rw (lt-ltb _ _ c.if-i-bytes.true) c.read_at.ensures
 
 pub returns-else-i-bytes : goal.returns-else-i-bytes
 unfolding unsigned_at

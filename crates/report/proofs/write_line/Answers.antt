@@ -4,14 +4,14 @@ use Rattle.report.specs.Line.{line_of}
 use Rattle.report.proofs.Texts.{from_start}
 use Rattle.report.proofs.write_line.Goals as goal
 
-pub returns-in-Accepted : goal.returns-in-Accepted
+pub returns-in-Ok : goal.returns-in-Ok
 unfolding line_of
-returns-in-Accepted c =
+returns-in-Ok c =
     let w = from_start c.put_accepted.ensures.0 (omega arith) in
-    record { value = rw c.in-Accepted.is w.0; leading = w.1 }
+    record { value = rw c.in-Ok.is w.0; leading = w.1 }
 
-pub returns-in-Refused : goal.returns-in-Refused
+pub returns-in-Err : goal.returns-in-Err
 unfolding line_of
-returns-in-Refused c =
+returns-in-Err c =
     let w = from_start c.put_refused.ensures.0 (omega arith) in
-    record { value = rw c.in-Refused.is w.0; leading = w.1 }
+    record { value = rw c.in-Err.is w.0; leading = w.1 }

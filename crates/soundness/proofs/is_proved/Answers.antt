@@ -1,20 +1,20 @@
 -- `soundness::is_proved` meets its contract: an accepted certificate is sound.
-use mathlib.Core.Path.{◌≡◌, sym, ◌∙◌, ap}
-use mathlib.Core.Bool.{false≢true}
-use Rattle.answers.specs.Answer.{certificate_answer}
+use mathlib.Core.Path.{◌≡◌, sym, ◌∙◌}
+use mathlib.Core.Bool.{true, false≢true}
+use mathlib.Core.List.{List}
+use Prim.Native.Nat.{ℕ}
+use Rattle.answers.specs.Answer.{Answer}
+use Rattle.answers.specs.declared.CertificateValues.{CertificateValues}
 use Rattle.rules.specs.Verdict.{verdict_of}
+use Rattle.rules.specs.Theorems.{PropertyHolds}
 use Rattle.rules.specs.Versions.{version2}
 use Rattle.soundness.proofs.Soundness.{sound}
 use Rattle.soundness.proofs.is_proved.Goals as goal
+use Rattle.std.specs.Prelude.{Ok, Err, is_ok}
 
-pub returns-in-Accepted : goal.returns-in-Accepted
-returns-in-Accepted c =
-    let verdict_is : (let a = c.args in verdict_of version2 a.node.now a.cert.now ≡ certificate_answer c.verdict.result) = sym c.verdict.ensures in
-    let e = verdict_is ∙ ap certificate_answer c.in-Accepted.is in
-    record { verdict = rw e; property = λ _. sound _ _ _ e }
+holds : (node cert : List ℕ) (answer : Answer CertificateValues) → verdict_of version2 node cert ≡ answer → is_ok answer ≡ true → PropertyHolds node
+holds node cert (Ok values) e ok = sound _ _ _ e
+holds node cert (Err r) e ok = absurd (false≢true ok)
 
-pub returns-in-Refused : goal.returns-in-Refused
-returns-in-Refused c =
-    let verdict_is : (let a = c.args in verdict_of version2 a.node.now a.cert.now ≡ certificate_answer c.verdict.result) = sym c.verdict.ensures in
-    let e = verdict_is ∙ ap certificate_answer c.in-Refused.is in
-    record { verdict = rw e; property = λ r. absurd (false≢true r) }
+pub returns-clause-property : goal.returns-clause-property
+returns-clause-property c r = holds c.args.node.now c.args.cert.now _ (sym c.verdict.ensures) (sym c.is_ok.ensures.value ∙ r)

@@ -1,17 +1,15 @@
 -- `arithmetic::add_cut` meets its contract: the others are added, then the last one's constraint times −r.
-use mathlib.Core.Path.{◌≡◌, sym, ◌∙◌, ap}
-use Prim.Native.Nat.{◌+◌}
+use mathlib.Core.Path.{◌≡◌, ◌∙◌, ap}
 use native.Mathlib.Omega.{arith}
 use lib.IntN.{pos}
-use lib.ListN.{length, length-replicate}
+use lib.ListN.{length}
 use Rattle.integers.proofs.Abs.{abs_negℤ}
 use Rattle.constraints.specs.Layout.{line_at, constraints_from}
-use Rattle.rules.specs.Cuts.{as_arithmetic}
 use Rattle.arithmetic.specs.Sums.{sums_of}
 use Rattle.arithmetic.proofs.Adding.{length_sums}
 use Rattle.arithmetic.proofs.Cutting.{few, each_usable, last_turn}
 use Rattle.arithmetic.proofs.Turns.{sums_within}
-use Rattle.arithmetic.proofs.Words.{negated_fits, negated_word}
+use Rattle.arithmetic.proofs.Words.{negated_word}
 use Rattle.arithmetic.proofs.cuts.add_cut.Goals as goal
 
 pub add_literals-requires : goal.add_literals-requires
@@ -19,9 +17,6 @@ add_literals-requires c = record { count_bound = omega (arith, few _ _ _ _ _ c.r
 
 pub place_of-place-requires : goal.place_of-place-requires
 place_of-place-requires c = each_usable _ _ _ _ _ c.requires.cutting c.args.last (omega arith)
-
-pub overflow_sub-r : goal.overflow_sub-r
-overflow_sub-r c = negated_fits c.args.r (omega arith)
 
 pub add_terms-requires : goal.add_terms-requires
 add_terms-requires c =
@@ -40,23 +35,10 @@ add_terms-requires c =
       );
     }
 
-pub shape_of-sums : goal.shape_of-sums
-shape_of-sums c =
-    let turned : (c.add_terms.new.sums ≡ sums_of (constraints_from c.args.file.now c.args.start) (as_arithmetic (line_at c.args.file.now c.args.at)) (c.args.last + 1)) = last_turn _ _ _ _ _ c.requires.cutting c.add_literals.new.sums c.add_terms.new.sums c.place_of-place.result _
-    c.add_terms.ensures
-    c.place_of-place.ensures
-    (negated_word c.args.r (omega arith))
-    c.add_literals.ensures in
-    let file = c.args.file.now in
-    ap length {y = sums_of (constraints_from file c.args.start) (as_arithmetic (line_at file c.args.at)) (c.args.last + 1)} turned
-    ∙ length_sums (constraints_from file c.args.start) (as_arithmetic (line_at file c.args.at)) (c.args.last + 1)
-    ∙ sym (ap length c.requires.sums_value ∙ length-replicate 576 (pos 0))
-
 pub returns : goal.returns
 returns c =
-    let turned : (c.add_terms.new.sums ≡ sums_of (constraints_from c.args.file.now c.args.start) (as_arithmetic (line_at c.args.file.now c.args.at)) (c.args.last + 1)) = last_turn _ _ _ _ _ c.requires.cutting c.add_literals.new.sums c.add_terms.new.sums c.place_of-place.result _
+    last_turn _ _ _ _ _ c.requires.cutting c.add_literals.new.sums c.add_terms.new.sums c.place_of-place.result _
     c.add_terms.ensures
     c.place_of-place.ensures
     (negated_word c.args.r (omega arith))
-    c.add_literals.ensures in
-    turned
+    c.add_literals.ensures

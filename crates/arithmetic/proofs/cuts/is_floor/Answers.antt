@@ -14,9 +14,6 @@ use Rattle.rules.proofs.Floors.{floor_test}
 use Rattle.arithmetic.proofs.Words.{multiplier_word}
 use Rattle.arithmetic.proofs.cuts.is_floor.Goals as goal
 
-pub product-least-requires : goal.product-least-requires
-product-least-requires c = (rw (multiplier_word c.args.r (omega arith)) (omega arith), rw (to_z-of_z c.ranges.bound) (omega arith))
-
 pub overflow_add-result : goal.overflow_add-result
 overflow_add-result c =
     let least_is : (rd w64 c.product-least.result ≡ pos c.args.r *ℤ rd w64 c.args.bound) = let f : SFits w64 c.product-least.result = search rules in

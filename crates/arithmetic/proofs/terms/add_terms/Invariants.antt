@@ -1,6 +1,5 @@
 -- `arithmetic::add_terms` meets its contract. The loop's invariant: the terms passed are added.
 use mathlib.Core.Path.{◌≡◌}
-use Prim.Native.Nat.{◌-◌, ◌≤◌}
 use lib.ListN.{length}
 use Rattle.constraints.specs.Layout.{constraint_at}
 use Rattle.constraints.specs.Linear.{scaled, written}
@@ -8,7 +7,4 @@ use Rattle.arithmetic.specs.Sums.{add_form}
 use Rattle.arithmetic.proofs.terms.add_terms.Given as goal
 
 abbrev pub invariant-loop-j : goal.invariant-loop-j
-invariant-loop-j l = (l.j ≤ l.count) × (length l.sums ≡ length l.initial.sums) × (l.sums ≡ add_form l.initial.sums (scaled l.factor (written (constraint_at l.file l.at) l.j)))
-
-abbrev pub decreases-loop-j : goal.decreases-loop-j
-decreases-loop-j l = l.count - l.j
+invariant-loop-j l = (length l.sums ≡ length l.initial.sums) × (l.sums ≡ add_form l.initial.sums (scaled l.factor (written (constraint_at l.file l.at) l.j)))

@@ -9,7 +9,4 @@ use Rattle.rules.specs.Versions.{version2}
 use Rattle.certificate.proofs.checker.next_lines.Given as goal
 
 abbrev pub invariant-loop-i : goal.invariant-loop-i
-invariant-loop-i l = (l.line ≤ l.i) × (l.i ≤ l.end) × ((k : ℕ) → l.line ≤ k → k < l.i → line_passes version2 l.node l.cert k ≡ true) × (l.sums ≡ replicate 576 (pos 0))
-
-abbrev pub decreases-loop-i : goal.decreases-loop-i
-decreases-loop-i l = l.end - l.i
+invariant-loop-i l = (l.line ≤ l.i) × ((k : ℕ) → l.line ≤ k → k < l.i → line_passes version2 l.node l.cert k ≡ true) × (l.sums ≡ replicate 576 (pos 0))

@@ -7,6 +7,3 @@ use Rattle.certificate.proofs.constraint_rules.first_bad.Given as goal
 
 abbrev pub invariant-loop-i : goal.invariant-loop-i
 invariant-loop-i l = (l.i ≤ l.m) × ((j : ℕ) → j < l.i → constraint_passes (types_of l.types) l.k l.file l.start j ≡ true)
-
-abbrev pub decreases-loop-i : goal.decreases-loop-i
-decreases-loop-i l = l.m - l.i

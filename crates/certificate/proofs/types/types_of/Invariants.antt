@@ -7,6 +7,3 @@ use Rattle.certificate.proofs.types.types_of.Given as goal
 
 abbrev pub invariant-loop-i : goal.invariant-loop-i
 invariant-loop-i l = (l.i ≤ l.n) × (length l.types ≡ 64) × ((x : ℕ) → get_or l.types x 2 ≡ types_below l.file l.i x)
-
-abbrev pub decreases-loop-i : goal.decreases-loop-i
-decreases-loop-i l = l.n - l.i

@@ -1,21 +1,14 @@
--- `constraints::bytes::zeros_at` meets its contract. The loop's invariant: the bytes passed are zero.
-use mathlib.Core.Path.{◌≡◌, sym}
-use native.Mathlib.Omega.{arith}
-use borrow.Author.Rules.{rules}
-use borrow.Author.Tests.{eq-eqb, ne_eqb}
-use Rattle.answers.proofs.Every.{every_none, every_more, every_not}
+-- `constraints::bytes::zeros_at` meets its contract: what `all` answers, byte by byte.
+use mathlib.Core.Path.{◌∙◌}
+use lib.Dec.{eqb}
+use Rattle.std.proofs.Common.{rules, tests, take, drop}
+use Rattle.std.proofs.lemmas.Iterator.{YieldsList-from_slice}
+use Rattle.std.proofs.lemmas.Iterator.Search.{all_from_yields_List}
+use Rattle.constraints.proofs.Zeros.{zeros_is}
 use Rattle.constraints.proofs.bytes.zeros_at.Goals as goal
-
-pub loop-i-init : goal.loop-i-init
-loop-i-init c = (search rules, every_none _)
-
-pub returns-then-s-at-ne0 : goal.returns-then-s-at-ne0
-returns-then-s-at-ne0 c = sym (every_not _ _ _ c.loop-i-test.true (ne_eqb _ _ c.if-s-at-ne0.true))
-
-pub loop-i-preserved : goal.loop-i-preserved
-loop-i-preserved c = (search rules, every_more _ _ c.loop-i.invariant.1 (eq-eqb _ _ c.if-s-at-ne0.false))
 
 pub returns : goal.returns
 returns c =
-    let i-is : c.loop-i.i ≡ c.args.count = omega arith in
-    sym (rw i-is at c.loop-i.invariant.1)
+    let bytes = take c.args.count (drop c.args.at c.args.s.now) in
+    all_from_yields_List (λ b. eqb b 0) _ _ _ c.all.ensures.ran (YieldsList-from_slice bytes (search rules)) (λ x b q k. search (rules, tests))
+    ∙ zeros_is c.args.s.now c.args.at c.args.count c.requires

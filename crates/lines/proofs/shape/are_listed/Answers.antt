@@ -1,23 +1,14 @@
--- `lines::are_listed` meets its contract. The loop's invariant: each literal and multiplier passed is right.
-use mathlib.Core.Path.{◌≡◌, sym, ◌∙◌}
-use native.Mathlib.Omega.{arith}
-use borrow.Author.Rules.{rules}
-use Rattle.answers.proofs.Every.{every_none, every_more, every_not}
+-- `lines::are_listed` meets its contract: each literal and multiplier is right.
+use mathlib.Core.Path.{refl}
+use Rattle.std.proofs.Common.{rules, tests}
+use Rattle.answers.proofs.Ranges.{every_from_all}
+use Rattle.constraints.specs.Layout.{literal_at, multiplier_at}
+use Rattle.constraints.specs.Rules.{types_of}
+use Rattle.lines.specs.Slots.{listed_ok}
 use Rattle.lines.proofs.shape.are_listed.Goals as goal
-
-pub loop-j-init : goal.loop-j-init
-loop-j-init c = (search rules, every_none _)
-
-pub returns-then-not-is_listed : goal.returns-then-not-is_listed
-returns-then-not-is_listed c = sym (every_not _ _ _ c.loop-j-test.true (sym c.is_listed.ensures ∙ c.if-not-is_listed.true))
-
-pub loop-j-preserved : goal.loop-j-preserved
-loop-j-preserved c = (
-  search rules,
-  every_more _ _ c.loop-j.invariant.1 (sym c.is_listed.ensures ∙ c.if-not-is_listed.false),
-)
 
 pub returns : goal.returns
 returns c =
-    let j-is : c.loop-j.j ≡ c.args.h.count = omega arith in
-    sym (rw j-is at c.loop-j.invariant.1)
+    let a = c.args in
+    every_from_all (listed_ok (types_of a.types.now) a.k a.m a.h.kind (literal_at a.file.now a.at) (multiplier_at a.file.now a.at)) a.h.count c.all.ensures.ran refl
+    (λ x y q k. search (rules, tests))

@@ -65,12 +65,6 @@ returns-then-c-le2 c =
     let passed : (let a = c.args in (eqb (line_head_at a.cert.now a.at).count a.c.count && matches_at a.cert.now a.start a.m a.at a.c.first 0) ≡ true) = first_is ∙ c.if-not-count-c.false in
     ends_at_two _ _ _ _ passed c.if-c-le1.false (second_is ∙ c.if-not-matches.false) c.if-c-le2.true
 
-pub literal_at-requires-3 : goal.literal_at-requires-3
-literal_at-requires-3 c = (c.requires.readable.1, omega arith)
-
-pub matches-requires-3 : goal.matches-requires-3
-matches-requires-3 c = (c.requires.readable.0, c.requires.small_pattern.2)
-
 pub returns : goal.returns
 unfolding clause_is
 returns c =

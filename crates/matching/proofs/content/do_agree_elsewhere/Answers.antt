@@ -42,6 +42,3 @@ module _ (f : Form) (d : Linear) (known : agree_at f (bounded_of d).form (bounde
 
 pub returns-then-x-d : goal.returns-then-x-d
 returns-then-x-d c = sym (at_one (written (constraint_at c.args.file.now c.args.at) c.args.count) c.args.d c.requires.d_value c.args.x c.if-x-d.true)
-
-pub returns : goal.returns
-returns c = c.do_agree.ensures

@@ -1,18 +1,20 @@
 -- `matching::same_content` meets its contract: the tests in a row, of the head as it was read.
-use mathlib.Core.Path.{◌≡◌, sym, ◌∙◌, ap, ap₂}
+use mathlib.Core.Path.{◌≡◌, refl, sym, ◌∙◌, ap, ap₂}
 use mathlib.Core.Bool.{Bool, true, false, ◌&&◌, and_comm}
 use Prim.Native.Nat.{ℕ, ◌≤◌}
+use lib.Dec.{eqb}
 use lib.IntN.{ℤ}
 use mir.Syntax.{w64}
+use mir.Val.{of_z}
 use mir.Facts.{to_z-of_z}
 use borrow.Author.Rules.{rules}
-use Rattle.answers.proofs.Tests.{both_true}
 use Rattle.constraints.specs.declared.layout.ConstraintHead.{ConstraintHead}
 use Rattle.constraints.specs.Layout.{Constraint, constraint_at, used_in}
 use Rattle.constraints.specs.Linear.{coefficient, written, same_z, agree_at, same_content}
 use Rattle.constraints.proofs.Blocks.{used_is}
 use Rattle.rules.specs.declared.pattern.Linear.{Linear}
 use Rattle.rules.specs.Clauses.{bounded_of}
+use Rattle.matching.proofs.Words.{same_word}
 use Rattle.matching.proofs.content.same_content.Goals as goal
 
 -- the head as it was read
@@ -53,27 +55,19 @@ do_variables_agree-requires c =
       first_value = to_z-of_z c.ranges.first ∙ c.requires.first_value ∙ ap (λ (n : ℕ). coefficient (written read n) c.args.d.x) (sym count);
     }
 
-pub returns-then-not-same_number-do_variables_agree : goal.returns-then-not-same_number-do_variables_agree
+pub returns-then-not-head-d : goal.returns-then-not-head-d
 unfolding same_content
-returns-then-not-same_number-do_variables_agree c =
+returns-then-not-head-d c =
     let read : Constraint = constraint_at c.args.file.now c.args.at in
     let head_is = c.constraint_head-head.ensures in
     let count = count_is read c.constraint_head-head.result head_is c.requires.at_in_bounds.1 in
-    let both : (bound_test read c.args.d && variables_test read c.args.d) ≡ (c.same_number.result && c.do_variables_agree.result) =
+    let both : (bound_test read c.args.d && variables_test read c.args.d) ≡ (eqb (of_z w64 c.constraint_head-head.result.bound) (of_z w64 c.args.d.bound) && c.do_variables_agree.result) =
     made read c.args.d _ _ _ _ _ count
-    (to_z-of_z {w = w64} (record { sfits = c.struct_told-1.given.1.1.0.1 }) ∙ ap (λ (h : ConstraintHead). h.bound) head_is)
-    (to_z-of_z {w = w64} (record { sfits = c.struct_told-2-1.given.1.1.1.1.1.1.0.1 }))
-    c.same_number.ensures
+    (ap (λ (h : ConstraintHead). h.bound) head_is)
+    refl
+    (same_word c.constraint_head-head.result.bound c.args.d.bound (search rules) (search rules))
     c.do_variables_agree.ensures in
-    sym (around (bound_test read c.args.d) (terms_test read c.args.d) (variables_test read c.args.d) false (both ∙ c.if-not-same_number-do_variables_agree.true))
-
-pub do_terms_agree-requires : goal.do_terms_agree-requires
-do_terms_agree-requires c =
-    let passed : (c.same_number.result && c.do_variables_agree.result) ≡ true = c.if-not-same_number-do_variables_agree.false in
-    record {
-      at_in_bounds = (search rules, rw c.constraint_head-head.ensures c.requires.at_in_bounds.1, c.requires.at_in_bounds.2);
-      d_value = sym c.do_variables_agree.ensures ∙ (both_true c.same_number.result _ passed).1;
-    }
+    sym (around (bound_test read c.args.d) (terms_test read c.args.d) (variables_test read c.args.d) false (both ∙ c.if-not-head-d.true))
 
 pub returns : goal.returns
 unfolding same_content
@@ -81,12 +75,12 @@ returns c =
     let read : Constraint = constraint_at c.args.file.now c.args.at in
     let head_is = c.constraint_head-head.ensures in
     let count = count_is read c.constraint_head-head.result head_is c.requires.at_in_bounds.1 in
-    let both : (bound_test read c.args.d && variables_test read c.args.d) ≡ (c.same_number.result && c.do_variables_agree.result) =
+    let both : (bound_test read c.args.d && variables_test read c.args.d) ≡ (eqb (of_z w64 c.constraint_head-head.result.bound) (of_z w64 c.args.d.bound) && c.do_variables_agree.result) =
     made read c.args.d _ _ _ _ _ count
-    (to_z-of_z {w = w64} (record { sfits = c.struct_told-1.given.1.1.0.1 }) ∙ ap (λ (h : ConstraintHead). h.bound) head_is)
-    (to_z-of_z {w = w64} (record { sfits = c.struct_told-2-1.given.1.1.1.1.1.1.0.1 }))
-    c.same_number.ensures
+    (ap (λ (h : ConstraintHead). h.bound) head_is)
+    refl
+    (same_word c.constraint_head-head.result.bound c.args.d.bound (search rules) (search rules))
     c.do_variables_agree.ensures in
     c.do_terms_agree.ensures
     ∙ ap (λ (n : ℕ). agree_at (written read n) (bounded_of c.args.d).form (written read n)) count
-    ∙ sym (around (bound_test read c.args.d) (terms_test read c.args.d) (variables_test read c.args.d) true (both ∙ c.if-not-same_number-do_variables_agree.false))
+    ∙ sym (around (bound_test read c.args.d) (terms_test read c.args.d) (variables_test read c.args.d) true (both ∙ c.if-not-head-d.false))

@@ -21,18 +21,6 @@ module _ (a b : ℤ) (l : SFits w64 a) (m : SFits w64 b) (h : nat_abs (a *ℤ b)
   exact : rd w64 (rd w64 a *ℤ rd w64 b) ≡ a *ℤ b
   exact = to_z-of_z fits ∙ product_is
 
-pub overflow_mul-result : goal.overflow_mul-result
-overflow_mul-result c = fits c.args.factor c.args.d.a c.ranges.factor (record { sfits = c.struct_told-1.given.1.0.1 }) (omega (arith, c.requires.sums.a))
-
-pub overflow_mul-result-2 : goal.overflow_mul-result-2
-overflow_mul-result-2 c = fits c.args.factor c.args.d.b c.ranges.factor (record { sfits = c.struct_told-2-1.given.1.1.1.0.1 }) c.requires.sums.b
-
-pub overflow_mul-result-3 : goal.overflow_mul-result-3
-overflow_mul-result-3 c = fits c.args.factor c.args.d.c c.ranges.factor (record { sfits = c.struct_told-3-1.given.1.1.1.1.1.0.1 }) (omega (arith, c.requires.sums.c))
-
-pub overflow_mul-result-4 : goal.overflow_mul-result-4
-overflow_mul-result-4 c = fits c.args.factor c.args.d.bound c.ranges.factor (record { sfits = c.struct_told-4-1.given.1.1.1.1.1.1.0.1 }) c.requires.bound
-
 pub returns : goal.returns
 returns c =
     let f = c.args.factor in

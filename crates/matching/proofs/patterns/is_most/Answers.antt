@@ -26,9 +26,6 @@ returns-then-m-i c =
     let past : c.args.m ≤ constraint_number (atom_of c.args.literal.0) = omega (arith, c.atom-atom.ensures) in
     sym (not_past constraints c.args.m c.args.d c.args.literal.0 past)
 
-pub is_multiple-requires : goal.is_multiple-requires
-is_multiple-requires c = rw c.block_at.ensures (omega (arith, c.requires.0.room), c.requires.0.constraints _ c.if-m-i.false, c.requires.1)
-
 pub returns : goal.returns
 returns c =
     let constraints : (ℕ → Constraint) = λ i. constraint_at c.args.file.now (c.args.start + 80 * i) in

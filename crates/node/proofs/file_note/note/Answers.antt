@@ -6,6 +6,3 @@ use Rattle.node.proofs.file_note.note.Goals as goal
 
 pub slice_bounds-result-end : goal.slice_bounds-result-end
 slice_bounds-result-end c = sym (length-take-le _ _ (rw c.before.note_length-n.ensures (note_fits _)))
-
-pub returns : goal.returns
-returns c = rw c.before.note_length-n.ensures

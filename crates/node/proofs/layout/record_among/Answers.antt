@@ -1,13 +1,13 @@
 -- `node::record_among` meets its contract. Where it reads, the records and the trailer lie within the file.
 use mathlib.Core.Path.{◌≡◌, refl, sym, ◌∙◌, ap}
 use mathlib.Core.Bool.{Bool, true, false, ◌&&◌}
-use Prim.Native.Nat.{ℕ, ◌/◌, ◌<◌, ◌≤◌}
+use Prim.Native.Nat.{ℕ, ◌/◌}
 use native.Mathlib.Omega.{arith}
-use borrow.Author.Tests.{le-leb, lt-leb, leb-true, ltb-true, ltb-false}
+use borrow.Author.Tests.{le-leb, lt-leb, ltb-true, ltb-false}
 use lib.Dec.{leb, ltb}
 use lib.ListN.{length}
-use Rattle.answers.proofs.Tests.{both_true}
 use Rattle.node.specs.Layout.{record_among, size_of}
+use borrow.Author.Rules.{rules}
 use Rattle.node.proofs.layout.record_among.Goals as goal
 
 -- n records and the trailer fit a file of as many whole sixteens
@@ -22,34 +22,10 @@ room_is n size = go (ltb n (size / 16)) refl
 test_is : (i n size : ℕ) → (ltb i n && leb (size_of n) size) ≡ (ltb i n && ltb n (size / 16))
 test_is i n size = ap (λ (b : Bool). ltb i n && b) (sym (room_is n size))
 
-below : (c : goal.Then-i-n) → c.args.i < c.args.n
-below c = ltb-true _ _ (both_true _ (ltb c.args.n _) c.if-i-n.true).0
-
-within : (c : goal.Then-i-n) → size_of c.args.n ≤ length c.args.file.now
-within c = let a = c.args in leb-true _ _ (both_true (ltb a.i a.n) _ (test_is a.i a.n (length a.file.now) ∙ c.if-i-n.true)).1
-
-pub overflow_mul-start : goal.overflow_mul-start
-overflow_mul-start c = omega (arith, within c)
-
-pub overflow_add-start : goal.overflow_add-start
-overflow_add-start c = omega (arith, within c)
-
-pub overflow_sub-start : goal.overflow_sub-start
-overflow_sub-start c = within c
-
-pub overflow_mul-i : goal.overflow_mul-i
-overflow_mul-i c = omega (arith, within c, below c)
-
-pub overflow_add-start-then-i-n : goal.overflow_add-start-then-i-n
-overflow_add-start-then-i-n c = omega (arith, within c, below c)
-
-pub record_at-requires : goal.record_at-requires
-record_at-requires c = omega (arith, within c, below c)
-
 pub returns-then-i-n : goal.returns-then-i-n
 unfolding record_among
 returns-then-i-n c = rw (test_is c.args.i c.args.n (length c.args.file.now) ∙ c.if-i-n.true) c.record_at.ensures
 
 pub returns-else-i-n : goal.returns-else-i-n
 unfolding record_among
-returns-else-i-n c = rw (test_is c.args.i c.args.n (length c.args.file.now) ∙ c.if-i-n.false)
+returns-else-i-n c = rw (test_is c.args.i c.args.n (length c.args.file.now) ∙ c.if-i-n.false) (search rules)

@@ -1,12 +1,8 @@
 -- `node::searched_order` meets its contract. The loop's invariant: the arrays hold the order after k turns, and no record below the
 -- search's start is ready.
-use Prim.Native.Nat.{◌-◌}
 use Rattle.node.specs.Ordering.{NoneReady}
 use Rattle.node.proofs.Searching.{Searching}
 use Rattle.node.proofs.ordering.searched_order.Given as goal
 
 abbrev pub invariant-loop-k : goal.invariant-loop-k
-invariant-loop-k l = Searching l.file l.n l.streams l.flags l.k × NoneReady l.flags l.needs l.start
-
-abbrev pub decreases-loop-k : goal.decreases-loop-k
-decreases-loop-k l = l.n - l.k
+invariant-loop-k l = Searching l.file l.n l.streams l.placed l.k × NoneReady l.placed l.needs l.start

@@ -1,77 +1,65 @@
 -- `node::read` meets its contract: each way out is the first failing rule of the file, or the verdict on its records.
-use mathlib.Core.Path.{◌≡◌, sym, ◌∙◌, ap}
-use mathlib.Core.Bool.{Bool}
-use lib.ListN.{length, take}
+use mathlib.Core.Path.{sym, ◌∙◌, ap}
+use Rattle.answers.proofs.Checks.{check_stopped, check_passed}
 use Rattle.node.specs.declared.layout.Trailer.{Trailer}
-use Rattle.answers.specs.Answer.{node_answer}
-use Rattle.node.specs.Layout.{streams_of}
-use Rattle.node.specs.Reads.{order_of}
-use Rattle.node.specs.Outcome.{FileRules}
-use Rattle.node.specs.Rules.{fixed_ok, counts_ok, distance_ok}
 use Rattle.node.specs.Verdict.{verdict_of}
 use Rattle.node.proofs.FileRules.{long_enough, sizes}
-use Rattle.node.proofs.NodeRefusals.{refusal_of, records_decide}
+use Rattle.node.proofs.NodeRefusals.{refusal_read, verdict_by, file_rules, records_decide}
 use Rattle.node.proofs.reading.read.Goals as goal
 
--- a test of the trailer that was read is that of the file's
-test_is : {trailer of_file : Trailer} {made : Bool} (test : Trailer → Bool) → trailer ≡ of_file → made ≡ test trailer → test of_file ≡ made
-test_is test read made = ap test (sym read) ∙ sym made
-
-pub returns-then-not-length_ok : goal.returns-then-not-length_ok
+pub returns-in_err-check-clause-verdict_value : goal.returns-in_err-check-clause-verdict_value
 unfolding verdict_of
-returns-then-not-length_ok c =
-    let a = c.args in
-    let r = refusal_of (verdict_of a.file.now) (take (streams_of a.file.now) c.refused.result.order ≡ order_of a.file.now) c.refused.ensures
-    (rw (sym c.length_ok.ensures ∙ c.if-not-length_ok.true)) in
-    record { verdict_value = r.0; order_value = r.1 }
+returns-in_err-check-clause-verdict_value c =
+    refusal_read _ c.from_residual.ensures ∙ check_stopped _ _ _ _ _ c.length_ok.ensures c.check.ensures c.in_err-check.was
 
 pub trailer_of-trailer-requires : goal.trailer_of-trailer-requires
-trailer_of-trailer-requires c = long_enough _ (sym c.length_ok.ensures ∙ c.if-not-length_ok.false)
+trailer_of-trailer-requires c = long_enough _ (check_passed _ _ _ _ c.length_ok.ensures c.check.ensures c.in_ok-check.was)
 
-pub returns-then-not-fixed_ok : goal.returns-then-not-fixed_ok
-unfolding verdict_of
-returns-then-not-fixed_ok c =
-    let a = c.args in
-    let r = refusal_of (verdict_of a.file.now) (take (streams_of a.file.now) c.refused-then-not-fixed_ok.result.order ≡ order_of a.file.now) c.refused-then-not-fixed_ok.ensures
-    (rw (sym c.length_ok.ensures ∙ c.if-not-length_ok.false, test_is fixed_ok c.trailer_of-trailer.ensures c.fixed_ok.ensures ∙ c.if-not-fixed_ok.true)) in
-    record { verdict_value = r.0; order_value = r.1 }
+pub returns-in_err-check-2-clause-verdict_value : goal.returns-in_err-check-2-clause-verdict_value
+returns-in_err-check-2-clause-verdict_value c =
+    rw (
+      verdict_by _ _ c.trailer_of-trailer.ensures,
+      check_passed _ _ _ _ c.length_ok.ensures c.check.ensures c.in_ok-check.was,
+    )
+    (refusal_read _ c.from_residual-in_err-check-2.ensures ∙ check_stopped _ _ _ _ _ c.fixed_ok.ensures c.check-2.ensures c.in_err-check-2.was)
 
-pub returns-then-not-counts_ok : goal.returns-then-not-counts_ok
-unfolding verdict_of
-returns-then-not-counts_ok c =
-    let a = c.args in
-    let r = refusal_of (verdict_of a.file.now) (take (streams_of a.file.now) c.refused-then-not-counts_ok.result.order ≡ order_of a.file.now) c.refused-then-not-counts_ok.ensures
-    (rw (sym c.length_ok.ensures ∙ c.if-not-length_ok.false, test_is fixed_ok c.trailer_of-trailer.ensures c.fixed_ok.ensures ∙ c.if-not-fixed_ok.false, test_is counts_ok c.trailer_of-trailer.ensures c.counts_ok.ensures ∙ c.if-not-counts_ok.true)) in
-    record { verdict_value = r.0; order_value = r.1 }
+pub returns-in_err-check-3-clause-verdict_value : goal.returns-in_err-check-3-clause-verdict_value
+returns-in_err-check-3-clause-verdict_value c =
+    rw (
+      verdict_by _ _ c.trailer_of-trailer.ensures,
+      check_passed _ _ _ _ c.length_ok.ensures c.check.ensures c.in_ok-check.was,
+      check_passed _ _ _ _ c.fixed_ok.ensures c.check-2.ensures c.in_ok-check-2.was,
+    )
+    (refusal_read _ c.from_residual-in_err-check-3.ensures ∙ check_stopped _ _ _ _ _ c.counts_ok.ensures c.check-3.ensures c.in_err-check-3.was)
 
-pub returns-then-not-distance_ok : goal.returns-then-not-distance_ok
-unfolding verdict_of
-returns-then-not-distance_ok c =
-    let a = c.args in
-    let r = refusal_of (verdict_of a.file.now) (take (streams_of a.file.now) c.refused-then-not-distance_ok.result.order ≡ order_of a.file.now) c.refused-then-not-distance_ok.ensures
-    (rw (sym c.length_ok.ensures ∙ c.if-not-length_ok.false, test_is fixed_ok c.trailer_of-trailer.ensures c.fixed_ok.ensures ∙ c.if-not-fixed_ok.false, test_is counts_ok c.trailer_of-trailer.ensures c.counts_ok.ensures ∙ c.if-not-counts_ok.false, test_is (λ t. distance_ok t (length c.args.file.now)) c.trailer_of-trailer.ensures c.distance_ok.ensures ∙ c.if-not-distance_ok.true)) in
-    record { verdict_value = r.0; order_value = r.1 }
+pub returns-in_err-check-4-clause-verdict_value : goal.returns-in_err-check-4-clause-verdict_value
+returns-in_err-check-4-clause-verdict_value c =
+    rw (
+      verdict_by _ _ c.trailer_of-trailer.ensures,
+      check_passed _ _ _ _ c.length_ok.ensures c.check.ensures c.in_ok-check.was,
+      check_passed _ _ _ _ c.fixed_ok.ensures c.check-2.ensures c.in_ok-check-2.was,
+      check_passed _ _ _ _ c.counts_ok.ensures c.check-3.ensures c.in_ok-check-3.was,
+    )
+    (refusal_read _ c.from_residual-in_err-check-4.ensures ∙ check_stopped _ _ _ _ _ c.distance_ok.ensures c.check-4.ensures c.in_err-check-4.was)
 
 pub records_read-requires : goal.records_read-requires
 records_read-requires c =
-    let rules : FileRules c.args.file.now = record {
-      size = sym c.length_ok.ensures ∙ c.if-not-length_ok.false;
-      fixed = test_is fixed_ok c.trailer_of-trailer.ensures c.fixed_ok.ensures ∙ c.if-not-fixed_ok.false;
-      counts = test_is counts_ok c.trailer_of-trailer.ensures c.counts_ok.ensures ∙ c.if-not-counts_ok.false;
-      distance = test_is (λ t. distance_ok t (length c.args.file.now)) c.trailer_of-trailer.ensures c.distance_ok.ensures ∙ c.if-not-distance_ok.false;
-    } in
+    let rules = file_rules _ _ c.trailer_of-trailer.ensures
+    (check_passed _ _ _ _ c.length_ok.ensures c.check.ensures c.in_ok-check.was)
+    (check_passed _ _ _ _ c.fixed_ok.ensures c.check-2.ensures c.in_ok-check-2.was)
+    (check_passed _ _ _ _ c.counts_ok.ensures c.check-3.ensures c.in_ok-check-3.was)
+    (check_passed _ _ _ _ c.distance_ok.ensures c.check-4.ensures c.in_ok-check-4.was) in
     let size = sizes _ rules in
     let n_is = ap (λ (t : Trailer). t.streams) c.trailer_of-trailer.ensures in
     (n_is ∙ sym size.records, rw n_is size.few)
 
 pub returns : goal.returns
 returns c =
-    let rules : FileRules c.args.file.now = record {
-      size = sym c.length_ok.ensures ∙ c.if-not-length_ok.false;
-      fixed = test_is fixed_ok c.trailer_of-trailer.ensures c.fixed_ok.ensures ∙ c.if-not-fixed_ok.false;
-      counts = test_is counts_ok c.trailer_of-trailer.ensures c.counts_ok.ensures ∙ c.if-not-counts_ok.false;
-      distance = test_is (λ t. distance_ok t (length c.args.file.now)) c.trailer_of-trailer.ensures c.distance_ok.ensures ∙ c.if-not-distance_ok.false;
-    } in
+    let rules = file_rules _ _ c.trailer_of-trailer.ensures
+    (check_passed _ _ _ _ c.length_ok.ensures c.check.ensures c.in_ok-check.was)
+    (check_passed _ _ _ _ c.fixed_ok.ensures c.check-2.ensures c.in_ok-check-2.was)
+    (check_passed _ _ _ _ c.counts_ok.ensures c.check-3.ensures c.in_ok-check-3.was)
+    (check_passed _ _ _ _ c.distance_ok.ensures c.check-4.ensures c.in_ok-check-4.was) in
     let records = c.records_read.ensures in
-    let r = records_decide c.args.file.now rules c.trailer_of-trailer.result c.trailer_of-trailer.ensures (node_answer c.records_read.result.verdict) c.records_read.result.order (records.verdict_value, records.order_value) in
+    let r = records_decide _ _ c.trailer_of-trailer.ensures rules _ (records.verdict_value, records.order_value) in
     record { verdict_value = r.0; order_value = r.1 }

@@ -1,21 +1,20 @@
--- `ranges::range_ok` meets its contract: in each arm the type is known.
-use mir.Syntax.{w64}
-use mir.Val.{SFits}
-use mir.Facts.{to_z-of_z}
-use Rattle.ranges.specs.Table.{range_ok}
+-- `ranges::range_ok` meets its contract: the machine's tests of a bool's ends are those of equality with 0.
+use mathlib.Core.Path.{sym, ◌∙◌}
+use lib.IntN.{pos}
+use borrow.Author.Tests.{eq-eqb, ne_eqb}
 use borrow.Author.Rules.{rules}
+use Rattle.streams.proofs.Numbers.{equals_is}
+use Rattle.ranges.specs.Table.{range_ok}
 use Rattle.ranges.proofs.table.range_ok.Goals as goal
 
-pub returns-in-Bool : goal.returns-in-Bool
+pub returns-then-r-eq0 : goal.returns-then-r-eq0
 unfolding range_ok
-returns-in-Bool c =
-    let f : SFits w64 c.args.r.least = search rules in
-    let g : SFits w64 c.args.r.greatest = search rules in
-    rw (c.in-Bool.is, c.is_zero.ensures, c.is_zero-in-Bool.ensures, to_z-of_z f, to_z-of_z g)
+returns-then-r-eq0 c =
+    rw (c.in-Bool.is, sym (equals_is c.args.r.least (pos 0) (search rules) (search rules)) ∙ eq-eqb _ _ c.if-r-eq0.true)
+    (equals_is c.args.r.greatest (pos 0) (search rules) (search rules))
 
-pub returns-in-Int : goal.returns-in-Int
+pub returns-else-r-eq0 : goal.returns-else-r-eq0
 unfolding range_ok
-returns-in-Int c =
-    let f : SFits w64 c.args.r.least = search rules in
-    let g : SFits w64 c.args.r.greatest = search rules in
-    rw (c.in-Int.is, to_z-of_z f, to_z-of_z g)
+returns-else-r-eq0 c =
+    let not_0 = ne_eqb _ _ c.if-r-eq0.false in
+    rw (c.in-Bool.is, sym (equals_is c.args.r.least (pos 0) (search rules) (search rules)) ∙ not_0) not_0

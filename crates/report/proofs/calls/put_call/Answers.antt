@@ -2,10 +2,10 @@
 use Rattle.report.specs.Call.{call_line}
 use Rattle.report.proofs.calls.put_call.Goals as goal
 
-pub returns-in-Answered : goal.returns-in-Answered
+pub returns-in-Ok : goal.returns-in-Ok
 unfolding call_line
-returns-in-Answered c = rw c.in-Answered.is c.put_answered.ensures
+returns-in-Ok c = rw c.in-Ok.is c.put_answered.ensures
 
-pub returns-in-Refused : goal.returns-in-Refused
+pub returns-in-Err : goal.returns-in-Err
 unfolding call_line
-returns-in-Refused c = rw c.in-Refused.is c.put_not_answered.ensures
+returns-in-Err c = rw c.in-Err.is c.put_not_answered.ensures

@@ -1,21 +1,17 @@
 -- `session::begun` meets its contract: the record is set where the file is accepted, and else kept.
-use mathlib.Core.Path.{◌≡◌, sym, ◌∙◌, ap}
-use Rattle.answers.specs.Answer.{accepted, refused, node_answer}
-use Rattle.node.specs.Verdict.{verdict_of}
+use mathlib.Core.Path.{sym, ◌∙◌}
 use Rattle.session.proofs.Beginnings.{begins, keeps}
 use Rattle.session.proofs.beginning.begun.Goals as goal
 
-pub session_on-requires : goal.session_on-requires
-session_on-requires c =
-    let accepted_is : (verdict_of c.args.file.now ≡ accepted (record { streams = c.in-Accepted.streams; property = c.in-Accepted.property })) = sym c.verdict.ensures ∙ ap node_answer c.in-Accepted.is in
-    accepted_is
+pub session_on-session-requires : goal.session_on-session-requires
+session_on-session-requires c = sym c.verdict-answer.ensures ∙ c.in-Ok.is
 
-pub returns-in-Accepted : goal.returns-in-Accepted
-returns-in-Accepted c =
-    let accepted_is : (verdict_of c.args.file.now ≡ accepted (record { streams = c.in-Accepted.streams; property = c.in-Accepted.property })) = sym c.verdict.ensures ∙ ap node_answer c.in-Accepted.is in
-    (sym accepted_is, c.session_on.ensures ∙ begins _ _ accepted_is)
+pub returns-in-Ok : goal.returns-in-Ok
+returns-in-Ok c =
+    let e = sym c.verdict-answer.ensures ∙ c.in-Ok.is in
+    (sym e, c.session_on-session.ensures ∙ begins _ _ e)
 
-pub returns-in-Refused : goal.returns-in-Refused
-returns-in-Refused c =
-    let refused_is : (verdict_of c.args.file.now ≡ refused c.in-Refused.number c.in-Refused.place) = sym c.verdict.ensures ∙ ap node_answer c.in-Refused.is in
-    (sym refused_is, keeps _ _ refused_is)
+pub returns-in-Err : goal.returns-in-Err
+returns-in-Err c =
+    let e = sym c.verdict-answer.ensures ∙ c.in-Err.is in
+    (c.verdict-answer.ensures, keeps _ _ e)

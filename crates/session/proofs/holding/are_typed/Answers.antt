@@ -8,7 +8,7 @@ use borrow.Author.Rules.{rules}
 use Rattle.session.proofs.holding.are_typed.Goals as goal
 
 pub loop-i-init : goal.loop-i-init
-loop-i-init c = (search rules, every_none _)
+loop-i-init c = every_none _
 
 pub returns-then-not-is_typed : goal.returns-then-not-is_typed
 returns-then-not-is_typed c =
@@ -20,4 +20,4 @@ pub loop-i-preserved : goal.loop-i-preserved
 loop-i-preserved c =
     let typed_made : (c.is_typed.result ≡ value_typed c.args.file.now c.args.values.now c.loop-i.i) = let type_is = c.type_among.ensures ∙ type_among_is _ _ c.requires _ in
     typed_is _ _ c.number_at.result _ (search rules) type_is c.number_at.ensures c.is_typed.ensures in
-    (search rules, every_more _ _ c.loop-i.invariant.1 (sym typed_made ∙ c.if-not-is_typed.false))
+    every_more _ _ c.loop-i.invariant (sym typed_made ∙ c.if-not-is_typed.false)

@@ -19,19 +19,18 @@ use Rattle.streams.proofs.values.spread.Goals as goal
 
 pub loop-i-init : goal.loop-i-init
 unfolding inputs_below
-loop-i-init c = (search rules, refl, refl, λ k l. absurd (not-suc-le-zero l))
+loop-i-init c = (refl, refl, λ k l. absurd (not-suc-le-zero l))
 
 pub loop-i-preserved : goal.loop-i-preserved
 loop-i-preserved c =
     let inv = c.loop-i.invariant in
-    let fits : c.loop-i.j < 2 ^ 63 = omega (arith, inputs_le c.args.file.now c.loop-i.i, inv.2, c.requires.1) in
+    let fits : c.loop-i.j < 2 ^ 63 = omega (arith, inputs_le c.args.file.now c.loop-i.i, inv.1, c.loop-i-test.true, c.requires.1) in
     let f : SFits w64 c.number_at.result = search rules in (
-      search rules,
-      simp length-set inv.1,
-      c.with_record-j.ensures ∙ inputs_more _ _ _ _ c.requires.0 fits inv.2,
-      entries_more (given (node_of c.args.file.now) c.args.inputs.now) (pos 0) c.loop-i.given c.loop-i.i inv.3 (omega (arith, inv.1, c.requires.1))
-          (to_z-of_z f ∙ c.number_at.ensures ∙ ap (values_in c.args.inputs.now) inv.2),
+      simp length-set inv.0,
+      c.with_record-j.ensures ∙ inputs_more _ _ _ _ c.requires.0 fits inv.1,
+      entries_more (given (node_of c.args.file.now) c.args.inputs.now) (pos 0) c.loop-i.given c.loop-i.i inv.2 (omega (arith, inv.0, c.loop-i-test.true, c.requires.1))
+          (to_z-of_z f ∙ c.number_at.ensures ∙ ap (values_in c.args.inputs.now) inv.1),
     )
 
 pub returns : goal.returns
-returns c = λ k l. c.loop-i.invariant.3 k (omega arith)
+returns c = λ k l. c.loop-i.invariant.2 k (omega arith)

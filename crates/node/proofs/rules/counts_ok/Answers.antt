@@ -1,7 +1,0 @@
--- `node::counts_ok` meets its contract: the comparisons in a row.
-use Rattle.node.specs.Rules.{counts_ok}
-use Rattle.node.proofs.rules.counts_ok.Goals as goal
-
-pub returns : goal.returns
-unfolding counts_ok
-returns c = cc

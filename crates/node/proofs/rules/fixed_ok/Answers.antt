@@ -1,7 +1,0 @@
--- `node::fixed_ok` meets its contract: the comparisons in a row.
-use Rattle.node.specs.Rules.{fixed_ok}
-use Rattle.node.proofs.rules.fixed_ok.Goals as goal
-
-pub returns : goal.returns
-unfolding fixed_ok
-returns c = cc
