@@ -1,10 +1,12 @@
 -- The clause of a number, in two lists in a row, and by what each clause has.
 -- Assumes nothing.
-use mathlib.Core.Path.{◌≡◌, sym, ap}
+use mathlib.Core.Path.{◌≡◌, refl, sym, ap}
 use mathlib.Core.List.{List, [], ◌∷◌, ◌++◌, map}
-use Prim.Native.Nat.{ℕ, zero, suc, ◌-◌, ◌≤◌}
+use Prim.Native.Nat.{ℕ, zero, suc, ◌+◌, ◌-◌, ◌≤◌, ◌<◌}
+use native.Mathlib.Nat.{not-suc-le-zero, le_of_suc-le-suc}
 use native.Mathlib.Omega.{arith}
 use lib.IntN.{ℤ}
+use lib.ListN.{length}
 use Rattle.node.specs.Reads.{All}
 use Rattle.node.specs.declared.equation.StreamType.{StreamType}
 use Rattle.node.specs.declared.equation.StreamType.TheVariants.{Bool as BoolType, Int as IntType}
@@ -18,6 +20,24 @@ use Rattle.std.proofs.lemmas.Option.{slice_get-map}
 -- a constraint as a clause
 pub same_linear : {s x y : ℕ} {a b b' c c' k k' : ℤ} → b ≡ b' → c ≡ c' → k ≡ k' → clause1 (Most (linear s a x b y c k)) ≡ clause1 (Most (linear s a x b' y c' k'))
 same_linear p q r = rw (p, q, r)
+
+-- ---- a literal in front
+
+-- two lists in a row, each with a literal of its own in front: a number is the first list's as far as that goes
+module _ (p q : Pattern) (ds : List Clause) where
+  pub guarded_first : (cs : List Clause) (r : ℕ) → r < length cs → option_map (guarded p) (numbered cs r) ≡ numbered (map (guarded p) cs ++ map (guarded q) ds) r
+  guarded_first [] r l = absurd (not-suc-le-zero l)
+  guarded_first (c ∷ cs) zero l = refl
+  guarded_first (c ∷ cs) (suc r) l = guarded_first cs r (le_of_suc-le-suc l)
+
+  pub guarded_then : (cs : List Clause) (r t : ℕ) → r ≡ length cs + t → option_map (guarded q) (numbered ds t) ≡ numbered (map (guarded p) cs ++ map (guarded q) ds) r
+  guarded_then [] r t e = let f : r ≡ t = omega arith in rw f (sym (slice_get-map (guarded q) ds t))
+  guarded_then (c ∷ cs) zero t e = absurd (omega arith)
+  guarded_then (c ∷ cs) (suc r) t e = guarded_then cs r t (omega arith)
+
+pub two_clauses : (ty : StreamType) (s t : ℕ) → length (same_as ty s t) ≡ 2
+two_clauses BoolType s t = refl
+two_clauses IntType s t = refl
 
 past_two : (c d : Clause) (cs : List Clause) (r : ℕ) → 2 ≤ r → numbered (c ∷ d ∷ cs) r ≡ numbered cs (r - 2)
 past_two c d cs zero l = absurd (omega arith)
@@ -34,3 +54,7 @@ pub number_has : (P : Clause → Type 0) (cs : List Clause) (r : ℕ) → All P 
 number_has P [] r h = tt
 number_has P (c ∷ cs) zero h = h.0
 number_has P (c ∷ cs) (suc r) h = number_has P cs r h.1
+
+pub same_short : (ty : StreamType) (s t : ℕ) → All (λ c. c.count ≤ 2) (same_as ty s t)
+same_short BoolType s t = (omega arith, (omega arith, tt))
+same_short IntType s t = (omega arith, (omega arith, tt))

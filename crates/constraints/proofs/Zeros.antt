@@ -1,8 +1,8 @@
 -- All of a part of a file are zero where each of its bytes is.
 -- Assumes nothing.
-use mathlib.Core.Path.{◌≡◌, refl, sym, ◌∙◌, ap}
+use mathlib.Core.Path.{◌≡◌, refl, sym, ◌∙◌, ap, ap₂}
 use mathlib.Core.List.{List}
-use Prim.Native.Nat.{ℕ, zero, suc, ◌+◌, ◌<◌, ◌≤◌}
+use Prim.Native.Nat.{ℕ, zero, suc, ◌+◌, ◌-◌, ◌<◌, ◌≤◌}
 use native.Mathlib.Numerals.{add-one}
 use native.Mathlib.Omega.{arith}
 use lib.Dec.{eqb}
@@ -22,3 +22,9 @@ module _ (s : List ℕ) (start : ℕ) where
       ap (λ (m : ℕ). list_all (λ (b : ℕ). eqb b 0) (take m (drop start s))) (sym (add-one n))
       ∙ list_all_more (λ (b : ℕ). eqb b 0) (drop start s) n 0 within
       ∙ rw (zeros_is n (omega (arith, h)), get_or-drop start s n 0)
+
+  -- the same of a part whose start is given otherwise
+  pub zeros_from : (n : ℕ) {from : ℕ} → from ≡ start → start + n ≤ length s → list_all (λ b. eqb b 0) (take (start + n - from) (drop from s)) ≡ zeros_at s start n
+  zeros_from n {from} e h =
+      let many : start + n - from ≡ n = omega (arith, e) in
+      ap₂ (λ (k m : ℕ). list_all (λ (b : ℕ). eqb b 0) (take k (drop m s))) many e ∙ zeros_is n h

@@ -2,6 +2,9 @@
 ghost use Rattle.std.specs.Prelude.{ℕ, ◌+◌, ◌≤◌, ◌≡◌, List, length, drop, take};
 ghost use Rattle.fields.specs.Fields.{u16_at, u32_at, u64_at, i32_at, i64_at};
 
+use crate::signed::{i32_of, i64_of};
+use crate::unsigned::{u16_of, u32_of, u64_of};
+
 // A type that a file's fields have.
 pub trait Field: Sized {
     // How many bytes a field takes.
@@ -28,7 +31,8 @@ impl Field for u16 {
     ghost value_at = { u16_at };
 
     fn read_at(s: &[u8], at: usize) -> u16 {
-        u16::from_le_bytes(bytes_at(s, at))
+        let bytes: [u8; 2] = bytes_at(s, at);
+        u16_of(bytes[0], bytes[1])
     }
 }
 
@@ -38,7 +42,8 @@ impl Field for u32 {
     ghost value_at = { u32_at };
 
     fn read_at(s: &[u8], at: usize) -> u32 {
-        u32::from_le_bytes(bytes_at(s, at))
+        let bytes: [u8; 4] = bytes_at(s, at);
+        u32_of(u16_of(bytes[0], bytes[1]), u16_of(bytes[2], bytes[3]))
     }
 }
 
@@ -48,7 +53,10 @@ impl Field for u64 {
     ghost value_at = { u64_at };
 
     fn read_at(s: &[u8], at: usize) -> u64 {
-        u64::from_le_bytes(bytes_at(s, at))
+        let bytes: [u8; 8] = bytes_at(s, at);
+        let low = u32_of(u16_of(bytes[0], bytes[1]), u16_of(bytes[2], bytes[3]));
+        let high = u32_of(u16_of(bytes[4], bytes[5]), u16_of(bytes[6], bytes[7]));
+        u64_of(low, high)
     }
 }
 
@@ -57,9 +65,8 @@ impl Field for i32 {
 
     ghost value_at = { i32_at };
 
-    #[tactic(auto, using(crate::proofs::TwosComplement::i32_word))]
     fn read_at(s: &[u8], at: usize) -> i32 {
-        u32::read_at(s, at).cast_signed()
+        i32_of(u32::read_at(s, at))
     }
 }
 
@@ -68,8 +75,7 @@ impl Field for i64 {
 
     ghost value_at = { i64_at };
 
-    #[tactic(auto, using(crate::proofs::TwosComplement::i64_word))]
     fn read_at(s: &[u8], at: usize) -> i64 {
-        u64::read_at(s, at).cast_signed()
+        i64_of(u64::read_at(s, at))
     }
 }

@@ -2,12 +2,12 @@
 -- Assumes nothing.
 use mathlib.Core.Path.{◌≡◌, refl, sym, ◌∙◌, ap, ap₂, subst}
 use mathlib.Core.Logic.{◌⊎◌, inl, inr}
-use mathlib.Core.Bool.{Bool, true, false, not, cond, ◌&&◌, ◌||◌, false≢true}
+use mathlib.Core.Bool.{Bool, true, false, not, cond, ◌&&◌, ◌||◌, true≢false, false≢true}
 use mathlib.Core.List.{List}
-use Prim.Native.Nat.{ℕ, zero, suc, ◌+◌, ◌-◌, ◌*◌, ◌<◌, ◌≤◌, min}
-use native.Mathlib.Nat.{mul-le-mul_right, mul_comm, eq-or-lt_of_le, le_of_suc-le-suc, min-eq_left, min-le_left}
+use Prim.Native.Nat.{ℕ, zero, suc, ◌+◌, ◌-◌, ◌*◌, ◌/◌, ◌<◌, ◌≤◌, min}
+use native.Mathlib.Nat.{mul-le-mul_right, mul_comm, mul-zero, div-lt_iff_lt-mul, le-div_iff_mul-le, eq-or-lt_of_le, le_of_suc-le-suc, min-eq_left, min-le_left}
 use native.Mathlib.Omega.{arith}
-use borrow.Author.Tests.{eq-eqb, eqb-true, eqb-false, ltb-true, ltb-false}
+use borrow.Author.Tests.{eq-eqb, ne_eqb, eqb-true, eqb-false, ltb-true, ltb-false}
 use lib.Dec.{eqb, ltb}
 use lib.IntN.{ℤ, pos}
 use lib.ListN.{length, take, drop, length-take, length-drop, get_or, set, get_or-eq_default}
@@ -40,6 +40,20 @@ module _ (count m : ℕ) (inputs : List ℤ) where
   pub is_count : count_ok count m inputs ≡ true → length inputs ≡ count * m
   unfolding count_ok
   is_count e = eqb-true _ _ e
+
+  -- the three ways out of its test
+  pub without : m ≡ 0 → eqb (length inputs) 0 ≡ count_ok count m inputs
+  unfolding count_ok
+  without e = ap (eqb (length inputs)) (rw e (sym (mul-zero count)))
+
+  pub too_few : (m ≡ 0 → ⊥) → length inputs / m < count → count_ok count m inputs ≡ false
+  unfolding count_ok
+  too_few some l =
+      let h = (div-lt_iff_lt-mul {k = m} {x = length inputs} {y = count} (omega arith)).0 l in
+      ne_eqb _ _ (λ (e : length inputs ≡ count * m). omega (arith, e, h))
+
+  pub product_fits : (m ≡ 0 → ⊥) → count ≤ length inputs / m → count * m ≤ length inputs
+  product_fits some enough = (le-div_iff_mul-le {k = m} {x = count} {y = length inputs} (omega arith)).0 enough
 
 -- ---- an instant's inputs
 
@@ -186,3 +200,17 @@ module _ (file : List ℕ) where
         go true p q = let same = eqb-true (inputs_below file i) j p in rw same (get_or-set_same marks j _ false l) ∙ marked_now q same
         go false p (inl q) = absurd (eqb-false (inputs_below file i) j p (ap (inputs_below file) q ∙ sym e))
         go false p (inr q) = get_or-set_other marks j (inputs_below file i) _ false (eqb-false (inputs_below file i) j p) ∙ marked i q is ty
+
+-- the marked numbers, one more at a time
+module _ (marks : List Bool) (numbers : List ℤ) (k : ℕ) (fit : MarkedFit marks numbers k) where
+  pub fit_more : (get_or marks k false && not (fits_test BoolType (values_in numbers k))) ≡ false → MarkedFit marks numbers (suc k)
+  fit_more e j m marked = go (eq-or-lt_of_le (le_of_suc-le-suc m))
+    where
+      passes : (b c : Bool) → b ≡ true → (b && not c) ≡ false → c ≡ true
+      passes true true p q = refl
+      passes true false p q = absurd (true≢false q)
+      passes false c p q = absurd (false≢true p)
+
+      go : (j ≡ k) ⊎ (j < k) → fits_test BoolType (values_in numbers j) ≡ true
+      go (inl q) = rw q (passes (get_or marks k false) (fits_test BoolType (values_in numbers k)) (rw q at marked) e)
+      go (inr q) = fit j q marked

@@ -13,11 +13,18 @@ ghost use Rattle.histories.specs.Marks.{is_bool, MarksBools, MarkedFit};
 use node::{StreamType, is_input_among, type_among, with_record};
 use streams::{first_bad, is_typed};
 
-// 31, for instants with m inputs each.
+// 31, for instants with m inputs each. The product is formed only where it is at most the length: it cannot wrap.
 pub fn is_counted(count: usize, m: usize, inputs: &[i64]) -> bool
     ensures { result ≡ count_ok count m inputs.now }
 {
-    count.checked_mul(m) == Some(inputs.len())
+    let length = inputs.len();
+    if m == 0 {
+        return length == 0;
+    }
+    if length / m < count {
+        return false;
+    }
+    length == count * m
 }
 
 // The inputs of instant t.
@@ -34,7 +41,7 @@ pub fn inputs_at(inputs: &[i64], m: usize, t: usize) -> &[i64]
 fn is_bool_input(file: &[u8], n: usize, i: usize) -> bool
     ensures { result ≡ (is_input_among file.now n i && is_bool (type_among file.now n i)) }
 {
-    is_input_among(file, n, i) & matches!(type_among(file, n, i), StreamType::Bool)
+    matches!(type_among(file, n, i), StreamType::Bool) && is_input_among(file, n, i)
 }
 
 // For each input by its number, whether it is a bool's: so an instant's numbers are looked at without the records.

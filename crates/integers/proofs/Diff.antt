@@ -1,5 +1,5 @@
 -- An integer as the difference of two natural numbers, `p ⊖ q`. `omega` reads natural numbers only: `simp zify` carries
--- a statement on differences to one on natural numbers, through →, ×, ¬ and ↔. `by_diff` .. `by_diff3` bring differences in.
+-- a statement on differences to one on natural numbers, through →, ×, ¬ and ↔. `by_diff` .. `by_diff6` bring differences in.
 use mathlib.Core.Path.{◌≡◌, refl, sym, ap, ◌∙◌, subst}
 use mathlib.Core.Logic.{◌↔◌}
 use mathlib.Core.Bool.{Bool, true, false, cond}
@@ -171,3 +171,12 @@ by_diff2 P f a = by_diff (P a) (λ r s. by_diff (λ a. P a (r ⊖ s)) (λ p q. f
 
 pub by_diff3 {ℓ} : (P : ℤ → ℤ → ℤ → Type ℓ) → ((p q r s t u : ℕ) → P (p ⊖ q) (r ⊖ s) (t ⊖ u)) → (a b c : ℤ) → P a b c
 by_diff3 P f a b = by_diff (P a b) (λ t u. by_diff2 (λ a b. P a b (t ⊖ u)) (λ p q r s. f p q r s t u) a b)
+
+pub by_diff4 {ℓ} : (P : ℤ → ℤ → ℤ → ℤ → Type ℓ) → ((p q r s t u v w : ℕ) → P (p ⊖ q) (r ⊖ s) (t ⊖ u) (v ⊖ w)) → (a b c d : ℤ) → P a b c d
+by_diff4 P f a b c = by_diff (P a b c) (λ v w. by_diff3 (λ a b c. P a b c (v ⊖ w)) (λ p q r s t u. f p q r s t u v w) a b c)
+
+pub by_diff5 {ℓ} : (P : ℤ → ℤ → ℤ → ℤ → ℤ → Type ℓ) → ((p q r s t u v w x y : ℕ) → P (p ⊖ q) (r ⊖ s) (t ⊖ u) (v ⊖ w) (x ⊖ y)) → (a b c d e : ℤ) → P a b c d e
+by_diff5 P f a b c d = by_diff (P a b c d) (λ x y. by_diff4 (λ a b c d. P a b c d (x ⊖ y)) (λ p q r s t u v w. f p q r s t u v w x y) a b c d)
+
+pub by_diff6 {ℓ} : (P : ℤ → ℤ → ℤ → ℤ → ℤ → ℤ → Type ℓ) → ((p q r s t u v w x y k l : ℕ) → P (p ⊖ q) (r ⊖ s) (t ⊖ u) (v ⊖ w) (x ⊖ y) (k ⊖ l)) → (a b c d e f : ℤ) → P a b c d e f
+by_diff6 P h a b c d e = by_diff (P a b c d e) (λ k l. by_diff5 (λ a b c d e. P a b c d e (k ⊖ l)) (λ p q r s t u v w x y. h p q r s t u v w x y k l) a b c d e)

@@ -4,8 +4,10 @@ pub mod Ring
 pub mod Order
 pub mod Extremes
 pub mod Abs
+pub mod Rules
 pub mod Reading
 pub mod Words
 pub mod Small
 pub mod Within
+pub mod Product
 pub mod Promises

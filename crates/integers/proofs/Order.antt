@@ -7,7 +7,7 @@ use native.Mathlib.Nat.{mul-le-mul_left}
 use native.Mathlib.Omega.{arith}
 use lib.IntN.{ℤ, pos, negsuc, neg_ℤ, ◌+ℤ◌, ◌-ℤ◌, ◌*ℤ◌}
 use lib.Signed.{le_z, lt_z, ◌≤ℤ◌, ◌<ℤ◌}
-pub use lib.Signed.{≤ℤ_refl}
+pub use lib.Signed.{≤ℤ_refl, <ℤ_irrefl, <ℤ-≤ℤ_trans}
 use Rattle.std.proofs.lemmas.Int.{ints}
 use Rattle.integers.proofs.Diff.{zify, by_diff2}
 use Rattle.integers.proofs.Ring.{negℤ-*ℤ}
@@ -65,3 +65,6 @@ le_z_total a b e = grind (arith, ints)
 
 pub lt_z_true : (a b : ℤ) → (lt_z a b ≡ true) ↔ (a <ℤ b)
 lt_z_true a b = grind (arith, ints)
+
+pub lt_z_false : (a b : ℤ) → (lt_z a b ≡ false) ↔ (b ≤ℤ a)
+lt_z_false a b = grind (arith, ints)

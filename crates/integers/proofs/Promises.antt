@@ -1,4 +1,4 @@
--- What std's methods promise, as this crate's contracts say it. `src/lib.rt` names `promises`, so that no function needs answers.
+-- What std's methods promise, as this crate's contracts say it. `src/lib.rt` names `promises`, so that only `multiple` needs answers.
 use mathlib.Core.Path.{◌≡◌, refl, sym, ap, ◌∙◌}
 use mathlib.Core.Bool.{Bool, true, false, cond}
 use native.Mathlib.Omega.{arith}
@@ -12,7 +12,7 @@ use Rattle.std.proofs.lemmas.Int.{ints}
 use Rattle.integers.specs.Range.{checked_of, lesser, greater}
 use Rattle.integers.proofs.Within.{within, outside}
 
--- `checked_add`, `checked_sub` and `checked_mul`
+-- `checked_add` and `checked_sub`, and the two that take a number without a sign
 pub checked : (r : Option ℤ) (z : ℤ) → SomeIff r (SFits w64 z) z → r ≡ checked_of z
 checked None z n = sym (outside z n)
 checked (Some x) z h = ap Some h.1 ∙ sym (within z h.0)

@@ -13,10 +13,10 @@ use Rattle.integers.proofs.Reading.{rd, rd_op}
 
 -- any operation on two words, whose result fits: on what the machine reads, it fits too, and gives the same
 module _ (w : Width) (op : ℤ → ℤ → ℤ) {a b : ℤ} (f : SFits w a) (g : SFits w b) (h : SFits w (op a b)) where
-  read_fits : SFits w (op (rd w a) (rd w b))
+  pub read_fits : SFits w (op (rd w a) (rd w b))
   read_fits = subst (SFits w) (sym (rd_op w op f g)) h
 
-  read_result : rd w (op (rd w a) (rd w b)) ≡ op a b
+  pub read_result : rd w (op (rd w a) (rd w b)) ≡ op a b
   read_result = to_z-of_z read_fits ∙ rd_op w op f g
 
 -- a sum and a difference: the words fit since their bounds' sum does

@@ -1,5 +1,5 @@
 -- What the contracts cite: the limits of 64 signed bits, and a whole number as the result of a checked operation.
-use Rattle.std.specs.Prelude.{◌^◌, Bool, ◌&&◌, cond, ℤ, pos, neg_ℤ, ◌-ℤ◌, None, Option, Some}
+use Rattle.std.specs.Prelude.{ℕ, ◌^◌, Bool, ◌&&◌, cond, ℤ, pos, neg_ℤ, ◌-ℤ◌, None, Option, Some}
 use Rattle.std.specs.Int.Signed.{le_z}
 
 -- −2^63
@@ -24,3 +24,7 @@ lesser a b = cond (le_z a b) a b
 
 unfoldable pub greater : (a b : ℤ) → ℤ
 greater a b = cond (le_z a b) b a
+
+-- the number of magnitude m, below 0 where `negative`
+abbrev pub signed_of : Bool → ℕ → ℤ
+signed_of negative m = cond negative (neg_ℤ (pos m)) (pos m)

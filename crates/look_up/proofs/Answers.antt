@@ -72,8 +72,12 @@ module _ (file : List ℕ) {node : NodeValues} (e : verdict_of file ≡ accepted
   told_by i {table} holds l =
       record { says = (l.shows (history_values file count inputs) count (values_obey file e count inputs) i.instant_in i.short (history_table file e count inputs table holds)).1 }
 
+  pub value_told : (r : Option ℤ) (x : ℤ) → r ≡ Some x → ToldOf file count inputs stream instant r → accepted x ≡ value_answer file (history_values file count inputs) stream instant
+  value_told (Some y) x p t = let z : y ≡ x = cc in ap accepted (sym z ∙ t.says.0) ∙ sym (value_is file e (history_values file count inputs) stream instant t.says.1)
+  value_told None x p t = absurd (let z : ◌≡◌ {A = ℕ} 0 1 = cc in omega arith)
+
   pub answer_told : In (streams_of file) count stream instant → (r : Option ℤ) → ToldOf file count inputs stream instant r → ok_or r (record { number = 34; place = AtRecord stream }) ≡ value_answer file (history_values file count inputs) stream instant
-  answer_told i (Some y) t = ap accepted t.says.0 ∙ sym (value_is file e (history_values file count inputs) stream instant t.says.1)
+  answer_told i (Some y) t = value_told (Some y) y refl t
   answer_told i None t = sym (outside_is file e (history_values file count inputs) stream instant (omega (arith, i.short, i.instant_in)) i.stream_in t.says)
 
 -- ---- 31 and 33

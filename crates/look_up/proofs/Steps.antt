@@ -68,6 +68,9 @@ sooner None t k l e = tt
 sooner (Some o) t k l e = omega (arith, l, e)
 
 module _ (file : List ℕ) (n t s : ℕ) (ready : Ready file n t s) (before : List (Option ℤ)) where
+  pub hit : (x : ℤ) → get_or before (64 * t + s) None ≡ Some x → LookedUp file t s before before (Some x)
+  hit x e = record { shows = λ v k obeys early short table. (table, table.kept t s early (below file n t s ready) x e) }
+
   module _ (t₁ : List (Option ℤ)) (o₁ : Option Visit) (r₁ : Option ℤ) (is₁ : o₁ ≡ first_visit (equation_at file s) t) (f₁ : Followed file o₁ before t₁ r₁) where
     early_one : (k : ℕ) → t < k → VisitEarly o₁ k
     early_one k l = subst (λ (o : Option Visit). VisitEarly o k) (sym is₁) (sooner (first_visit (equation_at file s) t) t k l (one_falls file (accepts file n t s ready) t s ready.early (below file n t s ready)).early)

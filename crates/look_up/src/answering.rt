@@ -16,13 +16,9 @@ fn told(history: &History, stream: usize, instant: usize) -> Option<i64>
     requires { is_in history.now.n history.now.count stream instant ≡ true }
     ensures { ToldOf history.now.file.now history.now.count history.now.inputs.now stream instant result }
 {
-    look(
-        history.file,
-        history.n,
-        &mut filled(history),
-        instant,
-        stream,
-    )
+    let mut table = [None; 1024];
+    filled(history, &mut table);
+    look(history.file, history.n, &mut table, instant, stream)
 }
 
 // The answer to a look-up of a stream at an instant, in a history of `count` instants that has these inputs in turn.

@@ -30,15 +30,13 @@ fn add_stream(history: &History, table: &mut [Option<i64>; 1024], s: usize, j: u
     j
 }
 
-// The inputs of all streams.
-pub fn filled(history: &History) -> [Option<i64>; 1024]
-    requires { history.now.count ≤ 16 }
-    ensures { HoldsHistory history.now.file.now history.now.count history.now.inputs.now history.now.n result }
+// Sets the inputs of all streams, in a table that knows nothing yet.
+pub fn filled(history: &History, table: &mut [Option<i64>; 1024])
+    requires { (history.now.count ≤ 16) × HoldsHistory history.now.file.now history.now.count history.now.inputs.now 0 table.old }
+    ensures { HoldsHistory history.now.file.now history.now.count history.now.inputs.now history.now.n table.new }
 {
-    let mut table = [None; 1024];
     let mut j = 0;
     for s in 0..history.n {
-        j = add_stream(history, &mut table, s, j);
+        j = add_stream(history, table, s, j);
     }
-    table
 }

@@ -1,13 +1,15 @@
--- The factor that is read off: that its products fit, and where none is right.
+-- The factor that is read off: its sign's cases, that its products fit, and where none is right.
 -- Assumes nothing.
 use mathlib.Core.Path.{◌≡◌, refl, sym, ◌∙◌, ap}
 use mathlib.Core.Bool.{Bool, true, false, cond, not, ◌&&◌, false≢true}
 use Prim.Native.Nat.{ℕ, zero, suc, ◌*◌, ◌≤◌}
 use native.Mathlib.Nat.{le_refl, mul-le-mul, not-suc-le-zero}
 use native.Mathlib.Omega.{arith}
-use borrow.Author.Tests.{not-true}
-use lib.IntN.{ℤ, pos, negsuc, nat_abs, ◌*ℤ◌}
+use borrow.Author.Tests.{lt-ltb, le-ltb, not-true}
+use lib.IntN.{ℤ, pos, negsuc, nat_abs, ◌-ℤ◌, ◌*ℤ◌}
+use lib.Signed.{lt_z}
 use Rattle.integers.proofs.Abs.{abs-*ℤ, bound_mul}
+use Rattle.integers.proofs.Ring.{+ℤ_idl}
 use Rattle.answers.proofs.Tests.{both_true}
 use Rattle.constraints.specs.Layout.{Constraint, used_in}
 use Rattle.constraints.specs.Linear.{Bounded, coefficient, written, same_z, bounded_of as of_constraint}
@@ -25,6 +27,22 @@ use Rattle.rules.proofs.Leading.{lead}
 use Rattle.clauses.specs.Limits.{Small}
 use Rattle.matching.specs.Content.{Summable}
 use Rattle.matching.specs.Factors.{Fitting}
+
+-- ---- by its sign
+
+pub above : (z : ℤ) → lt_z (pos 0) z ≡ true → z ≡ pos (factor_from z)
+above (pos zero) e = absurd (false≢true e)
+above (pos (suc n)) e = ap pos (omega arith)
+above (negsuc n) e = absurd (false≢true e)
+
+pub below : (z : ℤ) → lt_z z (pos 0) ≡ true → pos 0 -ℤ z ≡ pos (factor_from z)
+below (pos n) e = absurd (false≢true (sym (le-ltb n 0 (omega arith)) ∙ e))
+below (negsuc n) e = +ℤ_idl (pos (suc n)) ∙ ap pos (omega arith)
+
+pub neither : (z : ℤ) → lt_z (pos 0) z ≡ false → lt_z z (pos 0) ≡ false → pos 1 ≡ pos (factor_from z)
+neither (pos zero) e f = refl
+neither (pos (suc n)) e f = absurd (false≢true (sym e ∙ lt-ltb 0 (suc n) (omega arith)))
+neither (negsuc n) e f = absurd (false≢true (sym f))
 
 -- ---- its products
 

@@ -3,8 +3,8 @@
 use mathlib.Core.Path.{◌≡◌, refl}
 use mathlib.Core.Bool.{Bool, true, false, cond, ◌&&◌}
 use mathlib.Core.List.{List}
-use Prim.Native.Nat.{ℕ, ◌<◌, ◌≤◌, ◌^◌}
-use native.Mathlib.Nat.{not-suc-le-zero}
+use Prim.Native.Nat.{ℕ, ◌<◌, ◌≤◌, ◌^◌, zero-le}
+use native.Mathlib.Nat.{not-suc-le-zero, le_refl}
 use native.Mathlib.Omega.{arith}
 use borrow.Author.Tests.{leb-true}
 use lib.Dec.{leb}
@@ -13,6 +13,15 @@ use Rattle.answers.proofs.Tests.{both_true}
 use Rattle.node.specs.Equations.{type_at, equation_at, type_among, equation_among}
 use Rattle.node.specs.Inputs.{is_input, is_input_among}
 use Rattle.node.specs.Layout.{records_of, streams_of, size_of, record_of, type_byte_of, record_among, type_byte_among}
+
+-- a file has no more records than its trailer says
+pub records_le : (s : List ℕ) → records_of s ≤ streams_of s
+unfolding records_of
+records_le s = go (leb 16 (length s) && leb (size_of (streams_of s)) (length s))
+  where
+    go : (b : Bool) → cond b (streams_of s) 0 ≤ streams_of s
+    go true = le_refl (streams_of s)
+    go false = zero-le
 
 -- a file that has a record has room for all n and the trailer
 records_fit : (s : List ℕ) (i : ℕ) → i < records_of s → size_of (records_of s) ≤ length s

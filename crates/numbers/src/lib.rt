@@ -7,6 +7,7 @@ ghost use Rattle.numbers.specs.Numbers.{number_at, unsigned_at, numbers_from};
 use fields::Field;
 
 // Number i of the bytes; 0 where they have none.
+#[tactic(auto, using(crate::proofs::Signed::numbers))]
 fn number_at(bytes: &[u8], i: usize) -> i64
     ensures { result ≡ number_at bytes.now i }
 {

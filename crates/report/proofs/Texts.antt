@@ -1,12 +1,13 @@
 -- Text written piece after piece. Assumes nothing.
 use mathlib.Core.Path.{◌≡◌, refl, sym, ap, ◌∙◌}
-use Prim.Native.Nat.{ℕ, suc, ◌+◌, ◌-◌, ◌≤◌}
+use Prim.Native.Nat.{ℕ, suc, ◌+◌, ◌-◌, ◌≤◌, ◌<◌}
 use mathlib.Core.List.{List, [], ◌∷◌, ◌++◌, append_assoc}
 use native.Mathlib.Omega.{arith}
 use native.Mathlib.Nat.{zero-add}
+use native.Mathlib.Numerals.{add-one}
 use borrow.Rule.Slice.PartMut.{put_mid}
-use lib.ListN.{length, take, drop, set, length-append}
-use lib.Seq.{sets, sets-eq, length-sets, length-take-le, drop-drop}
+use lib.ListN.{length, take, drop, get_or, set, length-append}
+use lib.Seq.{sets, sets-eq, length-sets, length-take-le, take-suc, drop-drop}
 use Rattle.report.specs.Line.{overwritten, Leading}
 use Rattle.report.specs.Written.{Written}
 
@@ -14,6 +15,13 @@ pub sets_append : (l : List ℕ) (i : ℕ) (a b : List ℕ) → sets l i (a ++ b
 sets_append l i [] b = ap (λ (k : ℕ). sets l k b) (omega arith)
 sets_append l i (x ∷ a) b =
     sets_append (set l i x) (suc i) a b ∙ ap (λ (k : ℕ). sets (sets (set l i x) (suc i) a) k b) (omega arith)
+
+-- one byte more of a text
+pub sets_more : (l : List ℕ) (at : ℕ) (text : List ℕ) (i : ℕ) → i < length text
+    → set (sets l at (take i text)) (at + i) (get_or text i 0) ≡ sets l at (take (i + 1) text)
+sets_more l at text i h =
+    let e : length (take i text) ≡ i = length-take-le i text (omega arith) in
+    sym (rw (add-one, take-suc text i 0 h, sets_append, e))
 
 -- a text in the place of as many bytes from an index on
 pub put_is_sets : (l : List ℕ) (at : ℕ) {written : List ℕ} (text : List ℕ) → at + length text ≤ length l → written ≡ text

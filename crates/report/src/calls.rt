@@ -7,6 +7,7 @@ ghost use Rattle.report.specs.Written.{Written};
 use crate::lines::put_refusal;
 use crate::text::{put, put_field};
 use answers::{InstantVerdict, Refusal};
+use integers::magnitude;
 
 // What a slice holds before each call, so that its line can say whether a refusal kept it.
 pub const MARK: i64 = 7;
@@ -16,7 +17,7 @@ fn put_signed(out: &mut [u8], at: usize, x: i64) -> usize
     requires { at + 22 ≤ length out.old }
     ensures { (Written out.old at (signed_text x) out.new result) × (result ≤ at + 22) }
 {
-    let n = x.unsigned_abs() as usize;
+    let n = magnitude(x) as usize;
     if x < 0 {
         put_field(out, at, b" -", n)
     } else {

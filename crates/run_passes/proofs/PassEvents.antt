@@ -3,14 +3,14 @@
 use mathlib.Core.Path.{◌≡◌, refl, sym, ◌∙◌, ap}
 use mathlib.Core.Bool.{Bool, true, false, cond}
 use mathlib.Core.List.{List, [], ◌∷◌, ◌++◌}
-use Prim.Native.Nat.{ℕ, zero, suc, ◌<◌, ◌≤◌, min}
+use Prim.Native.Nat.{ℕ, zero, suc, ◌-◌, ◌<◌, ◌≤◌, min}
 use native.Mathlib.Nat.{le_of_suc-le-suc, not-suc-le-zero}
 use native.Mathlib.Omega.{arith}
-use borrow.Author.Tests.{ne_eqb, lt-ltb, le-ltb, ltb-true, ltb-false}
+use borrow.Author.Tests.{eq-eqb, ne_eqb, lt-ltb, le-ltb, ltb-true, ltb-false}
 use lib.Dec.{eqb, ltb}
 use lib.IntN.{ℤ, pos}
 use lib.ListN.{length, take, drop, replicate, length-drop, length-replicate, drop_of_length-le}
-use lib.Seq.{take_at}
+use lib.Seq.{take-length, take_at, take_all}
 use Rattle.fields.specs.Fields.{u16_at}
 use Rattle.numbers.specs.Numbers.{number_at, numbers_from}
 use Rattle.numbers.proofs.Capped.{capped}
@@ -31,11 +31,11 @@ module _ (events : List ℕ) where
   unfolding first_size
   size_none l = rw (lt-ltb (length events) 6 l)
 
-  size_cut : 6 ≤ length events → length events < size_of events → first_size events ≡ 0
+  pub size_cut : 6 ≤ length events → length events < size_of events → first_size events ≡ 0
   unfolding first_size
   size_cut h l = rw (le-ltb (length events) 6 h, lt-ltb (length events) (size_of events) l)
 
-  size_whole : 6 ≤ length events → size_of events ≤ length events → first_size events ≡ size_of events
+  pub size_whole : 6 ≤ length events → size_of events ≤ length events → first_size events ≡ size_of events
   unfolding first_size
   size_whole h l = rw (le-ltb (length events) 6 h, le-ltb (length events) (size_of events) l)
 
@@ -66,6 +66,14 @@ module _ (event : List ℕ) (at : ℕ) where
   pub count_some : 6 ≤ length event → min (u16_at event at) 65 ≡ count_at event at
   unfolding count_at
   count_some h = rw (le-ltb (length event) 6 h) (capped (u16_at event at) 65)
+
+  pub count_few : 6 ≤ length event → u16_at event at < 65 → u16_at event at ≡ count_at event at
+  unfolding count_at
+  count_few h l = rw (le-ltb (length event) 6 h, lt-ltb (u16_at event at) 65 l)
+
+  pub count_many : 6 ≤ length event → 65 ≤ u16_at event at → 65 ≡ count_at event at
+  unfolding count_at
+  count_many h l = rw (le-ltb (length event) 6 h, le-ltb (u16_at event at) 65 l)
 
   at_most : (a : Bool) → ltb (length event) 6 ≡ a → count_at event at ≤ 65
   at_most true e = omega (arith, count_none (ltb-true (length event) 6 e))
@@ -114,20 +122,51 @@ module _ {s next : Session} {answer : Answer (Unit {0})} (event : List ℕ) {inp
         go true moved of_call = record { moves = moved; past = of_call.0; line = of_call.1 }
         go false moved of_call = record { moves = moved; past = of_call.0; line = of_call.1 }
 
+pub whole_rest : (left : List ℕ) (size : ℕ) → take (length left - size) (drop size left) ≡ drop size left
+whole_rest left size = rw (← length-drop size left) (take-length (drop size left))
+
+-- a beginning's file, of which there may be fewer bytes than its room
+module _ (event : List ℕ) (room : ℕ) (e : room ≡ u16_at event 4) where
+  pub file_cut : take room (take (length event - 6) (drop 6 event)) ≡ file_of event
+  file_cut = rw (whole_rest event 6, e)
+
+  pub file_whole : length event - 6 ≤ room → take (length event - 6) (drop 6 event) ≡ file_of event
+  file_whole h = whole_rest event 6 ∙ sym (take_all (u16_at event 4) (drop 6 event) (rw length-drop (omega (arith, e))))
+
 -- ---- which event it is
 
 module _ (event : List ℕ) where
-  kind_none : length event < 6 → kind_of event ≡ 0
+  pub kind_none : length event < 6 → kind_of event ≡ 0
   unfolding kind_of
   kind_none l = rw (lt-ltb (length event) 6 l)
 
-  kind_there : 6 ≤ length event → kind_of event ≡ u16_at event 0
+  pub kind_there : 6 ≤ length event → kind_of event ≡ u16_at event 0
   unfolding kind_of
   kind_there l = rw (le-ltb (length event) 6 l)
 
   pub is_short : length event < 6 → old_call (call_of event) ≡ event_of event
   unfolding event_of
   is_short l = rw (kind_none l)
+
+  -- a beginning's file is there
+  pub beginning_long : kind_of event ≡ 3 → 6 ≤ length event
+  beginning_long e = go (ltb (length event) 6) refl
+    where
+      go : (b : Bool) → ltb (length event) 6 ≡ b → 6 ≤ length event
+      go true f = absurd (omega (arith, kind_none (ltb-true (length event) 6 f)))
+      go false f = ltb-false (length event) 6 f
+
+  pub is_beginning : kind_of event ≡ 3 → beginning (file_of event) ≡ event_of event
+  unfolding event_of
+  is_beginning e = rw (eq-eqb (kind_of event) 3 e)
+
+  pub is_commit : ¬ (kind_of event ≡ 3) → kind_of event ≡ 2 → commit ≡ event_of event
+  unfolding event_of
+  is_commit n e = rw (ne_eqb (kind_of event) 3 n, eq-eqb (kind_of event) 2 e)
+
+  pub is_call : ¬ (kind_of event ≡ 3) → ¬ (kind_of event ≡ 2) → call_event (eqb (kind_of event) 1) (call_of event) ≡ event_of event
+  unfolding event_of
+  is_call n m = rw (ne_eqb (kind_of event) 3 n, ne_eqb (kind_of event) 2 m)
 
   -- of an event with a kind, by its number
   pub is_kind : {k : ℕ} → 6 ≤ length event → k ≡ u16_at event 0

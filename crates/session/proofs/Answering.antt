@@ -8,12 +8,12 @@ use native.Mathlib.Omega.{arith}
 use borrow.Author.Tests.{le-leb, leb-true, eqb-true, not-true}
 use lib.Dec.{leb, eqb}
 use lib.IntN.{ℤ, pos}
-use lib.ListN.{length, take}
+use lib.ListN.{length, take, replicate}
 use lib.Seq.{length-take-le}
 use Rattle.answers.specs.declared.Place.{Place}
 use Rattle.answers.specs.declared.Place.TheVariants.{File}
 use Rattle.answers.specs.Answer.{Answer, accepted, refused, is_accepted}
-use Rattle.answers.specs.Checks.{check}
+use Rattle.answers.specs.Checks.{check, lowest}
 use Rattle.answers.proofs.Checks.{by_check}
 use Rattle.answers.proofs.Tests.{both_true}
 use Rattle.node.specs.Inputs.{input_count}
@@ -23,12 +23,12 @@ use Rattle.node.specs.Verdict.{verdict_of}
 use Rattle.node.proofs.FileRules.{Sizes}
 use Rattle.node.proofs.Notes.{accepted_sizes}
 use Rattle.node.proofs.Outcomes.{is_accepted_is}
-use Rattle.streams.specs.Instant.{instant_of, filled}
+use Rattle.streams.specs.Instant.{input_fits, instant_of, value_inside, first_along, filled}
 use Rattle.streams.specs.Nodes.{node_of}
 use Rattle.streams.proofs.Evaluations.{instant_length}
 use Rattle.session.specs.declared.Session.{Session}
 use Rattle.session.specs.Records.{held_file, unstarted, untried, typed_unless, is_node, holds_node}
-use Rattle.session.specs.Instants.{worked_out, answer_of, slice_of, with_trial, trial_of, moved_to, moved_on, commit_answer, commit_of, session_of}
+use Rattle.session.specs.Instants.{worked_out, in_order, answer_of, slice_of, with_trial, trial_of, moved_to, moved_on, commit_answer, commit_of, session_of}
 use Rattle.session.specs.Working.{node_held}
 use Rattle.session.proofs.Filled.{start_of_filled}
 use Rattle.std.specs.Option.{is_some}
@@ -91,7 +91,13 @@ module _ (s : Session) where
   unfolding holds_node
   holds_by short is_node_is last trial = rw (le-leb s.length 1040 short, is_node_is, last, trial)
 
+-- ---- the answer, from what the tests gave
+
 module _ (s : Session) (inputs : List ℤ) (room : ℕ) where
+  pub answer_by : {node count size : Bool} {input value : Option ℕ} → holds_node s ≡ node → eqb (length inputs) (input_count (held_file s)) ≡ count → eqb room (streams_of (held_file s)) ≡ size → lowest (input_fits (held_file s) inputs) (streams_of (held_file s)) ≡ input → first_along (order_of (held_file s)) (value_inside (worked_out s inputs)) ≡ value → in_order node count size input value ≡ answer_of s inputs room
+  unfolding answer_of
+  answer_by a b c d e = sym (λ i. in_order (a i) (b i) (c i) (d i) (e i))
+
   -- ---- what an answered call has passed
 
   abbrev Passed : Answer (Unit {0}) → Type 0
@@ -150,6 +156,11 @@ module _ (s : Session) (inputs slice values : List ℤ) where
 pub refused_keeps : (s : Session) (inputs slice : List ℤ) {number : ℕ} {place : Place} → answer_of s inputs (length slice) ≡ refused number place → (trial_of s inputs (length slice) ≡ s) × (session_of s inputs (length slice) ≡ s) × (slice_of s inputs slice ≡ slice)
 unfolding trial_of session_of slice_of
 refused_keeps s inputs slice e = (rw e, rw e, rw e)
+
+-- its spare bytes are not looked at: what is said of a record with zeros there is said of it
+pub by_parts : (s : Session) (inputs slice : List ℤ) → let p : Session = record { length = s.length; last = s.last; trial = s.trial; file = s.file; started = s.started; held = s.held; spare = replicate 6 0 } in (answer_of p inputs (length slice) ≡ answer_of s inputs (length slice)) × (slice_of p inputs slice ≡ slice_of s inputs slice)
+unfolding answer_of slice_of holds_node
+by_parts s inputs slice = (refl, refl)
 
 -- ---- a commit's answer, from what the tests gave
 

@@ -14,7 +14,8 @@ use lib.IntN.{ℤ, pos}
 use lib.ListN.{length, get_or, set, replicate, length-replicate}
 use lib.Seq.{get_or-set_same, get_or-set_other}
 use borrow.Author.Count.{below_none, below_more}
-use Rattle.answers.proofs.Lowest.{none, found}
+use Rattle.answers.specs.Checks.{lowest, or_else}
+use Rattle.answers.proofs.Lowest.{found}
 use Rattle.integers.specs.Range.{inside, checked_of}
 use Rattle.integers.proofs.Within.{outside_is}
 use Rattle.node.specs.Equations.{equation_at}
@@ -27,7 +28,7 @@ use Rattle.streams.specs.Nodes.{node_of}
 use Rattle.streams.specs.Values.{values_in}
 use Rattle.streams.proofs.Evaluations.{evaluated_length}
 use Rattle.streams.proofs.Filled.{same_everywhere, is_filled}
-use Rattle.std.specs.Prelude.{None, Some}
+use Rattle.std.specs.Prelude.{None, Option, Some}
 
 -- a checked value that is there is the number, which is inside
 value_number : (z v : ℤ) → checked_of z ≡ Some v → (inside z ≡ true) × (v ≡ z)
@@ -37,6 +38,20 @@ value_number z v = go (inside z)
     go : (b : Bool) → cond b (Some z) None ≡ Some v → (b ≡ true) × (v ≡ z)
     go true e = (refl, cc)
     go false e = cc
+
+-- the first of an order, with one more
+first_more : (order : List ℕ) (ok : ℕ → Bool) (k : ℕ) → first_of order ok (k + 1) ≡ or_else (first_of order ok k) (ok (get_or order k 0)) (get_or order k 0)
+unfolding first_of lowest
+first_more order ok k = rw (add-one k) (go (lowest (λ j. ok (get_or order j 0)) k) (ok (get_or order k 0)))
+  where
+    go : (f : Option ℕ) (b : Bool) → at_place order (or_else f b k) ≡ or_else (at_place order f) b (get_or order k 0)
+    go (Some j) b = refl
+    go None true = refl
+    go None false = refl
+
+pub first_none : (order : List ℕ) (ok : ℕ → Bool) → first_of order ok 0 ≡ None
+unfolding first_of lowest
+first_none order ok = refl
 
 module _ (file : List ℕ) (inputs : List ℤ) (first : Bool) (past : List ℤ) where
   -- the array after the first k streams
@@ -64,14 +79,29 @@ module _ (file : List ℕ) (inputs : List ℤ) (first : Bool) (past : List ℤ) 
   abbrev pub WorkedTo : (present : List ℤ) → (k : ℕ) → Type 0
   WorkedTo present k = ((j : ℕ) → j < k → fits j ≡ true) × Holds present k
 
+  -- the first so far that 64 signed bits do not hold
+  abbrev pub outside_of : (k : ℕ) → Option ℕ
+  outside_of k = first_of (order_of file) (value_inside (instant_of file inputs first past)) k
+
+  -- where each of the first k fits, none of them is outside
+  none_so_far : (k : ℕ) → ((j : ℕ) → j < k → fits j ≡ true) → outside_of k ≡ None
+  none_so_far zero all = first_none (order_of file) (value_inside (instant_of file inputs first past))
+  none_so_far (suc k) all =
+      ap outside_of (sym (add-one k))
+      ∙ first_more (order_of file) (value_inside (instant_of file inputs first past)) k
+      ∙ rw (none_so_far k (λ j l. all j (omega arith)), all k (omega arith)) refl
+
   after_length : (k : ℕ) → length (so_far k) ≡ streams_of file
   after_length k =
       evaluated_length (node_of file) (order_of file) inputs first (values_in past) (replicate (streams_of file) (pos 0)) k
       ∙ length-replicate (streams_of file) (pos 0)
 
-  pub worked_start : WorkedTo (replicate 64 (pos 0)) 0
+  pub holds_start : Holds (replicate 64 (pos 0)) 0
   unfolding evaluated
-  worked_start = (below_none _, λ x. same_everywhere 64 x (pos 0) ∙ sym (same_everywhere (streams_of file) x (pos 0)))
+  holds_start x = same_everywhere 64 x (pos 0) ∙ sym (same_everywhere (streams_of file) x (pos 0))
+
+  pub worked_start : WorkedTo (replicate 64 (pos 0)) 0
+  worked_start = (below_none _, holds_start)
 
   module _ (ordered : Ordered (streams_of file) (equation_at file) (order_of file)) where
     instant_is : instant_of file inputs first past ≡ so_far (streams_of file)
@@ -97,15 +127,16 @@ module _ (file : List ℕ) (inputs : List ℤ) (first : Bool) (past : List ℤ) 
         ∙ stays k (streams_of file) l (le_refl (streams_of file))
         ∙ get_or-set_same (so_far k) (stream k) _ (pos 0) (omega (arith, after_length k, ordered.names k l))
 
-    pub worked_end : (present : List ℤ) → streams_of file ≤ 64 → length present ≡ 64 → WorkedTo present (streams_of file) → present ≡ filled 64 (pos 0) (instant_of file inputs first past)
-    worked_end present few e so =
+    pub holds_end : (present : List ℤ) → streams_of file ≤ 64 → length present ≡ 64 → Holds present (streams_of file) → present ≡ filled 64 (pos 0) (instant_of file inputs first past)
+    holds_end present few e holds =
         rw instant_is
-        (is_filled 64 (pos 0) (so_far (streams_of file)) present e (omega (arith, after_length (streams_of file))) so.1)
+        (is_filled 64 (pos 0) (so_far (streams_of file)) present e (omega (arith, after_length (streams_of file))) holds)
+
+    pub worked_end : (present : List ℤ) → streams_of file ≤ 64 → length present ≡ 64 → WorkedTo present (streams_of file) → present ≡ filled 64 (pos 0) (instant_of file inputs first past)
+    worked_end present few e so = holds_end present few e so.1
 
     pub none_outside : (present : List ℤ) → WorkedTo present (streams_of file) → first_along (order_of file) (value_inside (instant_of file inputs first past)) ≡ None
-    unfolding first_of
-    none_outside present so =
-        rw ordered.size (ap (at_place (order_of file)) (none fits (streams_of file) so.0))
+    none_outside present so = rw ordered.size (none_so_far (streams_of file) so.0)
 
     -- ---- one stream more
 

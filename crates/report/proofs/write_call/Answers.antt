@@ -5,4 +5,4 @@ use Rattle.report.proofs.Values.{first}
 use Rattle.report.proofs.write_call.Goals as goal
 
 pub returns-clause-value : goal.returns-clause-value
-returns-clause-value c = rw (first c.args.room c.args.slice (omega arith) c.min.ensures) at (from_start c.put_call.ensures.0 (omega arith)).0
+returns-clause-value c = rw (first c.args.room c.args.slice {n = c.min.result} (omega arith) (omega (arith, c.min.ensures))) at (from_start c.put_call.ensures.0 (omega arith)).0

@@ -5,11 +5,11 @@ use native.Mathlib.Omega.{arith}
 use Rattle.node.proofs.Outcomes.{is_accepted_is}
 use Rattle.look_up.specs.Looking.{HoldsHistory}
 use Rattle.look_up.proofs.Answers.{in_history, told_by}
+use Rattle.look_up.proofs.Rows.{history_none}
 use Rattle.look_up.proofs.answering.told.Goals as goal
 
--- src/answering.rt:41:22
 pub filled-requires : goal.filled-requires
-filled-requires c = (in_history _ _ _ _ c.requires).short
+filled-requires c = ((in_history _ _ _ _ c.requires).short, history_none _ _ _)
 
 pub look-requires : goal.look-requires
 look-requires c =
@@ -19,5 +19,5 @@ look-requires c =
 pub returns : goal.returns
 returns c =
     let h = c.args.history.now in
-    let holds = subst (λ (k : ℕ). HoldsHistory h.file.now h.count h.inputs.now k c.filled.result) h.streams c.filled.ensures in
+    let holds = subst (λ (k : ℕ). HoldsHistory h.file.now h.count h.inputs.now k c.filled.new.table) h.streams c.filled.ensures in
     told_by _ (is_accepted_is _ h.accepted) _ _ _ _ (in_history _ _ _ _ (rw h.streams at c.requires)) holds c.look.ensures

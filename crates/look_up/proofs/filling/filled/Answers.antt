@@ -2,17 +2,14 @@
 use mathlib.Core.Path.{refl}
 use native.Mathlib.Numerals.{add-one}
 use Rattle.node.specs.Inputs.{inputs_below}
-use Rattle.look_up.proofs.Rows.{history_none}
 use Rattle.look_up.proofs.filling.filled.Goals as goal
 
--- src/filling.rt:56:5
 pub loop-s-init : goal.loop-s-init
 unfolding inputs_below
-loop-s-init c = (refl, history_none _ _ _)
+loop-s-init c = (refl, c.requires.1)
 
--- src/filling.rt:57:9
 pub add_stream-j-requires : goal.add_stream-j-requires
-add_stream-j-requires c = (c.requires, c.loop-s-test.true, c.loop-s.invariant.0, c.loop-s.invariant.1)
+add_stream-j-requires c = (c.requires.0, c.loop-s-test.true, c.loop-s.invariant.0, c.loop-s.invariant.1)
 
 pub loop-s-preserved : goal.loop-s-preserved
 loop-s-preserved c = rw add-one c.add_stream-j.ensures

@@ -21,7 +21,7 @@ use Rattle.look_up.specs.declared.visits.Visit.{Visit}
 use Rattle.look_up.specs.Visits.{first_visit, second_visit}
 use Rattle.look_up.specs.Looking.{over, look_rank, visit_rank, Ready}
 use Rattle.look_up.proofs.Combining.{over_same}
-use Rattle.look_up.proofs.Steps.{in_table, equation_is, followed_there, missed_one, missed_two, missed, stored, ready_one, ready_two, there_ready}
+use Rattle.look_up.proofs.Steps.{in_table, equation_is, followed_there, hit, missed_one, missed_two, missed, stored, ready_one, ready_two, there_ready}
 use Rattle.look_up.proofs.table.+follow_look.Goals as goal
 use Rattle.std.specs.Prelude.{Option}
 
@@ -46,6 +46,12 @@ module _ {file : List ℕ} {n t s : ℕ} (ready : Ready file n t s) {e : Equatio
 
 pub follow-bounds : goal.follow-bounds
 follow-bounds t c = omega (arith, in_table _ _ _ _ (there_ready _ _ _ _ _ c.in-Some.is c.requires).1)
+
+pub follow-returns-in-Some-table : goal.follow-returns-in-Some-table
+follow-returns-in-Some-table t c =
+    let f : SFits w64 c.in-Some-table.x = search rules in
+    rw (to_z-of_z f)
+    (followed_there _ _ _ _ _ _ _ c.in-Some.is (hit _ _ _ _ (there_ready _ _ _ _ _ c.in-Some.is c.requires).1 _ _ c.in-Some-table.is))
 
 pub follow-look-requires : goal.follow-look-requires
 follow-look-requires t c =

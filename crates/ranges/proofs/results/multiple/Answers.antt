@@ -1,11 +1,16 @@
--- `ranges::multiple` meets its contract: the constant's sign is known in each arm, and products of ends fit.
-use mathlib.Core.Path.{sym, ◌∙◌, ap, ap₂}
+-- `ranges::multiple` meets its contract: ends within ±4,000,000,000 fit, whatever the constant, and its sign is known in each arm.
+use mathlib.Core.Path.{sym, ◌∙◌, ap}
 use lib.IntN.{pos}
 use lib.Signed.{le_z}
 use Rattle.ranges.specs.Results.{multiple_of}
-use Rattle.ranges.specs.Table.{range}
-use Rattle.ranges.proofs.Words.{widened, multiple_is}
+use Rattle.ranges.proofs.Words.{same_ends, widened, multiple_fits, multiple_is}
 use Rattle.ranges.proofs.results.multiple.Goals as goal
+
+pub overflow_mul-x : goal.overflow_mul-x
+overflow_mul-x c = multiple_fits c.ranges.k c.from-k.ensures c.args.a.least c.requires.least
+
+pub overflow_mul-y : goal.overflow_mul-y
+overflow_mul-y c = multiple_fits c.ranges.k c.from-k.ensures c.args.a.greatest c.requires.greatest
 
 pub returns-then-k-ge0 : goal.returns-then-k-ge0
 unfolding multiple_of
@@ -13,7 +18,7 @@ returns-then-k-ge0 c =
     let k_is = widened c.ranges.k c.from-k.ensures in
     let times = multiple_is c.ranges.k c.from-k.ensures in
     rw (ap (le_z (pos 0)) (sym k_is) ∙ c.if-k-ge0.true)
-    (ap₂ range (times _ c.requires.least) (times _ c.requires.greatest))
+    (same_ends (times _ c.requires.least) (times _ c.requires.greatest))
 
 pub returns-else-k-ge0 : goal.returns-else-k-ge0
 unfolding multiple_of
@@ -21,4 +26,4 @@ returns-else-k-ge0 c =
     let k_is = widened c.ranges.k c.from-k.ensures in
     let times = multiple_is c.ranges.k c.from-k.ensures in
     rw (ap (le_z (pos 0)) (sym k_is) ∙ c.if-k-ge0.false)
-    (ap₂ range (times _ c.requires.greatest) (times _ c.requires.least))
+    (same_ends (times _ c.requires.greatest) (times _ c.requires.least))

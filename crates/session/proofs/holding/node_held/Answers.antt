@@ -3,7 +3,7 @@
 use mathlib.Core.Path.{sym, ◌∙◌}
 use native.Mathlib.Omega.{arith}
 use Rattle.node.proofs.Notes.{accepted_count}
-use Rattle.session.proofs.HeldNodes.{too_long, not_accepted, typed, last_untyped, trial_untyped}
+use Rattle.session.proofs.HeldNodes.{too_long, held_refused, both_typed, last_untyped, trial_untyped}
 use Rattle.session.proofs.holding.node_held.Goals as goal
 use Rattle.session.proofs.holding.node_held.Goals.{else-typed_unless-via-then-typed_unless+else-typed_unless-2, else-typed_unless-via-else-typed_unless}
 
@@ -12,7 +12,7 @@ returns-then-s-gt1040-clause-node_value c = too_long c.args.s.now c.if-s-gt1040.
 
 pub returns-in_default-clause-node_value : goal.returns-in_default-clause-node_value
 returns-in_default-clause-node_value c =
-    not_accepted c.args.s.now (omega (arith, c.if-s-gt1040.false)) (sym c.in_default.ensures.verdict_value)
+    held_refused c.args.s.now (omega (arith, c.if-s-gt1040.false)) (sym c.in_default.ensures.verdict_value)
 
 pub typed_unless-requires : goal.typed_unless-requires
 typed_unless-requires c = accepted_count _ (sym c.in-Ok.ensures.verdict_value)
@@ -22,7 +22,7 @@ typed_unless-requires-then-typed_unless c = accepted_count _ (sym c.in-Ok.ensure
 
 pub returns-then-typed_unless-2-clause-node_value : goal.returns-then-typed_unless-2-clause-node_value
 returns-then-typed_unless-2-clause-node_value c =
-    typed c.args.s.now (omega (arith, c.if-s-gt1040.false)) (sym c.in-Ok.ensures.verdict_value)
+    both_typed c.args.s.now (omega (arith, c.if-s-gt1040.false)) (sym c.in-Ok.ensures.verdict_value)
     (sym c.typed_unless.ensures ∙ c.if-typed_unless.true)
     (sym c.typed_unless-then-typed_unless.ensures ∙ c.if-typed_unless-2.true)
 

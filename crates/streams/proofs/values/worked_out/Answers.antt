@@ -54,16 +54,12 @@ loop-i-preserved c =
           c.in-Some.v (sym some_is ∙ c.in-Some.is) (omega (arith, inv.0, in_array _ _ c.requires _ l, stream_is _ _ c.requires _ l))),
     )
 
-pub returns-clause-outside_value : goal.returns-clause-outside_value
-returns-clause-outside_value c =
+pub returns : goal.returns
+returns c =
     let a = c.args in
     let all : c.loop-i.i-index ≡ streams_of a.file.now = omega (arith, c.loop-i-test.false, c.loop-i.auto.i-index-end, size_is _ _ c.requires) in
-    sym (none_outside a.file.now a.inputs.now a.first a.past.now (ordered _ _ c.requires) c.loop-i.values
-    (subst (WorkedTo a.file.now a.inputs.now a.first a.past.now c.loop-i.values) all c.loop-i.invariant.1))
-
-pub returns-clause-values_value : goal.returns-clause-values_value
-returns-clause-values_value c =
-    let a = c.args in
-    let all : c.loop-i.i-index ≡ streams_of a.file.now = omega (arith, c.loop-i-test.false, c.loop-i.auto.i-index-end, size_is _ _ c.requires) in
-    worked_end a.file.now a.inputs.now a.first a.past.now (ordered _ _ c.requires) c.loop-i.values (few _ _ c.requires) c.loop-i.invariant.0
-    (subst (WorkedTo a.file.now a.inputs.now a.first a.past.now c.loop-i.values) all c.loop-i.invariant.1)
+    let worked = subst (WorkedTo a.file.now a.inputs.now a.first a.past.now c.loop-i.values) all c.loop-i.invariant.1 in
+    record {
+      outside_value = sym (none_outside a.file.now a.inputs.now a.first a.past.now (ordered _ _ c.requires) c.loop-i.values worked);
+      values_value = worked_end a.file.now a.inputs.now a.first a.past.now (ordered _ _ c.requires) c.loop-i.values (few _ _ c.requires) c.loop-i.invariant.0 worked;
+    }

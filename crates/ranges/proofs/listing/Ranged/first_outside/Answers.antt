@@ -6,4 +6,6 @@ use Rattle.ranges.specs.Listing.{results_ok}
 use Rattle.ranges.proofs.listing.Ranged.first_outside.Goals as goal
 
 pub returns : goal.returns
-returns c = lowest_from_find (results_ok c.args.self.now.file.now c.args.self.now.table.now) _ c.find.ensures.ran (λ k l. absurd (omega arith)) (λ x q k. search (rules, tests)) (λ x q k. search (rules, tests))
+returns c =
+    let own = c.args.self.now in
+    lowest_from_find (results_ok own.file.now own.table.now) _ c.find.ensures.ran (λ k l. absurd (omega arith)) (λ x q k. search (rules, tests)) (λ x q k. search (rules, tests))
