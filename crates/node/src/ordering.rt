@@ -95,16 +95,16 @@ fn needs_of_all(file: &[u8], n: usize) -> [Needs; 64]
 }
 
 // For each stream, the lowest of n records that needs it now, or n.
-fn readers_of(needs: &[Needs; 64], n: usize) -> [usize; 256]
+fn readers_of(needs: &[Needs; 64], n: usize) -> [u8; 256]
     requires { n ≤ 64 }
     ensures { HoldReaders needs.now n 0 result }
 {
-    let mut readers = [n; 256];
+    let mut readers = [n as u8; 256];
     for i in (0..n).rev() {
         let record = needs[i];
-        readers[record.a as usize] = i;
-        readers[record.b as usize] = i;
-        readers[record.c as usize] = i;
+        readers[record.a as usize] = i as u8;
+        readers[record.b as usize] = i as u8;
+        readers[record.c as usize] = i as u8;
     }
     readers
 }
@@ -178,7 +178,7 @@ pub fn searched_order(file: &[u8], n: usize) -> Result<[usize; 64], usize>
         };
         streams[k] = i;
         placed[i] = true;
-        start = next_start(i, readers[i]);
+        start = next_start(i, readers[i] as usize);
     }
     all_placed(streams, &placed, n)
 }

@@ -52,7 +52,8 @@ fn first_bad(file: &[u8], n: usize, rule: RecordRule) -> Option<usize>
     (0..n).find(|i| !passes(file, n, rule, *i))
 }
 
-// Rules 7 and 8, of a file whose order is worked out.
+// Rules 7 and 8, of a file whose order is worked out. Always inlined, as `records_read` is: each call of its own would copy the order.
+#[inline(always)]
 fn types_read(
     file: &[u8],
     n: usize,
@@ -78,6 +79,7 @@ fn types_read(
 
 // Rules 5 to 8 and 23, of a file whose trailer gives n and the property. Where each operand needed now is lower than its record, 6 and 23
 // hold.
+#[inline(always)]
 fn records_read(file: &[u8], n: usize, property: usize) -> Result<ReadNode, Refusal>
     requires { (n ≡ records_of file.now) × (n ≤ 64) }
     ensures verdict_value { answer_map (λ node. node.values) result ≡ records_verdict file.now n property }
